@@ -1,0 +1,7 @@
+pub mod Record
+pub mod Moves
+pub mod Desk
+pub mod Listing
+pub mod Calls
+pub mod View
+pub mod Bytes

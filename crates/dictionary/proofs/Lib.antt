@@ -1,0 +1,7 @@
+-- What the proofs of several functions use.
+pub mod Fields
+pub mod Headers
+pub mod Naming
+pub mod Members
+pub mod Families
+pub mod Accepted

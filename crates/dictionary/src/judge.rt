@@ -1,0 +1,298 @@
+// The checker: exactly document 01's rules, for any bytes.
+use crate::names::name_fine;
+use crate::names::same_bytes;
+use crate::rows::child_count;
+use crate::rows::child_offset;
+use crate::rows::entry_count;
+use crate::rows::first_child;
+use crate::rows::format_nibble;
+use crate::rows::name_length;
+use crate::rows::name_offset;
+use crate::rows::sequence_number;
+use crate::rows::truncated_bit;
+use crate::rows::version_tag;
+use crate::rows::whole_size;
+ghost use mathlib.Core.Path.{_≡_};
+ghost use mathlib.Core.Bool.{true};
+ghost use Prim.Native.Nat.{ℕ, _+_, _-_, _*_, _≤_, _<_};
+ghost use lib.ListN.{length, getD};
+ghost use lib.Seq.{slice};
+ghost use Rattle.terms.specs.Tests.{all, same};
+ghost use Rattle.dictionary.specs.Rows.{rowAt, rowBytes, firstChild, childCount, name};
+ghost use Rattle.dictionary.specs.Accepts.{headerFine, childless, blockFine, inTurn, unlike, member, stringChild, setFine, arrayFine, enumFine, leafForm, childrenFine, nameFine, accepts};
+ghost use Rattle.dictionary.specs.Met.{Rowed, Named, Marks, Marked};
+
+fn header_fine(d: &[u8]) -> bool
+    ensures { λ r. ⌜ r ≡ headerFine (now (d .entry)) ⌝ }
+{
+    let size = d.len();
+    if size < terms::DICTIONARY_LEAST {
+        return false;
+    }
+    if size > terms::DICTIONARY_MOST {
+        return false;
+    }
+    if version_tag(d) != 0 {
+        return false;
+    }
+    if truncated_bit(d) != 0 {
+        return false;
+    }
+    if whole_size(d) != size {
+        return false;
+    }
+    let n = entry_count(d);
+    if n < 1 {
+        return false;
+    }
+    if 12 + 10 * n > size {
+        return false;
+    }
+    format_nibble(d, 0) == 0
+}
+
+fn names_fine(d: &[u8], n: usize) -> bool
+    requires { ⌜ Rowed (now d) n ⌝ }
+    ensures { λ r. ⌜ r ≡ all n (nameFine (now (d .entry))) ⌝ }
+{
+    let mut row: usize = 0;
+    while row < n {
+        if !name_fine(d, n, row) {
+            return false;
+        }
+        row += 1;
+    }
+    true
+}
+
+fn has_none(d: &[u8], row: usize) -> bool
+    requires { ⌜ rowAt row + rowBytes ≤ length (now d) ⌝ }
+    ensures { λ r. ⌜ r ≡ childless (now (d .entry)) row ⌝ }
+{
+    if child_offset(d, row) == 0 {
+        return child_count(d, row) == 0;
+    }
+    false
+}
+
+fn block_fine(d: &[u8], n: usize, row: usize) -> bool
+    requires { ⌜ Rowed (now d) n ⌝ }
+    requires { ⌜ row < n ⌝ }
+    ensures { λ r. ⌜ r ≡ blockFine (now (d .entry)) row ⌝ }
+{
+    if has_none(d, row) {
+        return true;
+    }
+    let offset = child_offset(d, row);
+    if offset < 12 {
+        return false;
+    }
+    if (offset - 12) % 10 != 0 {
+        return false;
+    }
+    first_child(d, row) + child_count(d, row) <= n
+}
+
+// All children, `count` rows from `first` on, are strings.
+fn only_strings(d: &[u8], n: usize, first: usize, count: usize) -> bool
+    requires { ⌜ Rowed (now d) n ⌝ }
+    requires { ⌜ first + count ≤ n ⌝ }
+    ensures { λ r. ⌜ r ≡ all count (stringChild (now (d .entry)) first) ⌝ }
+{
+    let mut p: usize = 0;
+    while p < count {
+        if format_nibble(d, first + p) != 5 {
+            return false;
+        }
+        p += 1;
+    }
+    true
+}
+
+// The name of a row is that of `long` bytes, closing 00 included, at `at`.
+fn alike(d: &[u8], n: usize, row: usize, at: usize, long: usize) -> bool
+    requires { ⌜ Named (now d) n ⌝ }
+    requires { ⌜ (row < n) × (2 ≤ long) × (at + long ≤ length (now d)) ⌝ }
+    ensures { λ r. ⌜ r ≡ same (name (now (d .entry)) row) (slice at (at + long - 1) (now (d .entry))) ⌝ }
+{
+    if name_length(d, row) != long {
+        return false;
+    }
+    same_bytes(d, name_offset(d, row), d, at, long - 1)
+}
+
+// The child at position p has a name that no elder sibling has.
+fn unlike_elders(d: &[u8], n: usize, first: usize, p: usize) -> bool
+    requires { ⌜ Named (now d) n ⌝ }
+    requires { ⌜ first + p < n ⌝ }
+    ensures { λ r. ⌜ r ≡ unlike (now (d .entry)) first p ⌝ }
+{
+    let long = name_length(d, first + p);
+    if long == 0 {
+        return false;
+    }
+    let at = name_offset(d, first + p);
+    let mut q: usize = 0;
+    while q < p {
+        if alike(d, n, first + q, at, long) {
+            return false;
+        }
+        q += 1;
+    }
+    true
+}
+
+// The child at position p, whose elder siblings were all found to sit well. A mark spares the comparison where another parent has had it made.
+fn settle(d: &[u8], n: usize, first: usize, p: usize, marks: &mut [u8; 6552]) -> bool
+    requires { ⌜ Named (now d) n ⌝ }
+    requires { ⌜ Marks (now d) (now marks) ⌝ }
+    requires { ⌜ (first + p < n) × (all p (member (now d) first) ≡ true) ⌝ }
+    ensures { λ r. ⌜ Marked (now (d .entry)) (member (now (d .entry)) first p) r (now (marks .exit)) ⌝ }
+{
+    let row = first + p;
+    if sequence_number(d, row) != p {
+        return false;
+    }
+    if marks[row] != 0 {
+        return true;
+    }
+    if !unlike_elders(d, n, first, p) {
+        return false;
+    }
+    marks[row] = 1;
+    true
+}
+
+// The children of a set or enum. Where the last is marked, so is every other, and only its number is left to see.
+fn members_fine(d: &[u8], n: usize, first: usize, count: usize, marks: &mut [u8; 6552]) -> bool
+    requires { ⌜ Named (now d) n ⌝ }
+    requires { ⌜ Marks (now d) (now marks) ⌝ }
+    requires { ⌜ first + count ≤ n ⌝ }
+    ensures { λ r. ⌜ Marked (now (d .entry)) (all count (member (now (d .entry)) first)) r (now (marks .exit)) ⌝ }
+{
+    if count == 0 {
+        return true;
+    }
+    let last = first + count - 1;
+    if marks[last] != 0 {
+        return sequence_number(d, last) == count - 1;
+    }
+    let mut p: usize = 0;
+    while p < count {
+        if !settle(d, n, first, p, marks) {
+            return false;
+        }
+        p += 1;
+    }
+    true
+}
+
+fn set_fine(d: &[u8], n: usize, row: usize, marks: &mut [u8; 6552]) -> bool
+    requires { ⌜ Named (now d) n ⌝ }
+    requires { ⌜ Marks (now d) (now marks) ⌝ }
+    requires { ⌜ row < n ⌝ }
+    ensures { λ r. ⌜ Marked (now (d .entry)) (setFine (now (d .entry)) row) r (now (marks .exit)) ⌝ }
+{
+    if !block_fine(d, n, row) {
+        return false;
+    }
+    members_fine(d, n, first_child(d, row), child_count(d, row), marks)
+}
+
+fn array_fine(d: &[u8], n: usize, row: usize) -> bool
+    requires { ⌜ Rowed (now d) n ⌝ }
+    requires { ⌜ row < n ⌝ }
+    ensures { λ r. ⌜ r ≡ arrayFine (now (d .entry)) row ⌝ }
+{
+    if !block_fine(d, n, row) {
+        return false;
+    }
+    if child_count(d, row) != 1 {
+        return false;
+    }
+    sequence_number(d, first_child(d, row)) == 0
+}
+
+fn enum_fine(d: &[u8], n: usize, row: usize, marks: &mut [u8; 6552]) -> bool
+    requires { ⌜ Named (now d) n ⌝ }
+    requires { ⌜ Marks (now d) (now marks) ⌝ }
+    requires { ⌜ row < n ⌝ }
+    ensures { λ r. ⌜ Marked (now (d .entry)) (enumFine (now (d .entry)) row) r (now (marks .exit)) ⌝ }
+{
+    if !block_fine(d, n, row) {
+        return false;
+    }
+    let first = first_child(d, row);
+    let count = child_count(d, row);
+    if count < 1 {
+        return false;
+    }
+    if !only_strings(d, n, first, count) {
+        return false;
+    }
+    members_fine(d, n, first, count, marks)
+}
+
+// Formats whose rows have no children.
+fn leaf(format: usize) -> bool
+    ensures { λ r. ⌜ r ≡ leafForm format ⌝ }
+{
+    if format == 3 {
+        return true;
+    }
+    if format == 5 {
+        return true;
+    }
+    format == 7
+}
+
+fn children_fine(d: &[u8], n: usize, row: usize, marks: &mut [u8; 6552]) -> bool
+    requires { ⌜ Named (now d) n ⌝ }
+    requires { ⌜ Marks (now d) (now marks) ⌝ }
+    requires { ⌜ row < n ⌝ }
+    ensures { λ r. ⌜ Marked (now (d .entry)) (childrenFine (now (d .entry)) row) r (now (marks .exit)) ⌝ }
+{
+    let format = format_nibble(d, row);
+    if format == 0 {
+        return set_fine(d, n, row, marks);
+    }
+    if format == 1 {
+        return array_fine(d, n, row);
+    }
+    if format == 4 {
+        return enum_fine(d, n, row, marks);
+    }
+    if leaf(format) {
+        return has_none(d, row);
+    }
+    true
+}
+
+fn families_fine(d: &[u8], n: usize) -> bool
+    requires { ⌜ Named (now d) n ⌝ }
+    ensures { λ r. ⌜ r ≡ all n (childrenFine (now (d .entry))) ⌝ }
+{
+    let mut marks = [0u8; 6552];
+    let mut row: usize = 0;
+    while row < n {
+        if !children_fine(d, n, row, &mut marks) {
+            return false;
+        }
+        row += 1;
+    }
+    true
+}
+
+// Whether any bytes at all are a dictionary that document 01 accepts.
+pub fn judge(d: &[u8]) -> bool
+    ensures { λ r. ⌜ r ≡ accepts (now (d .entry)) ⌝ }
+{
+    if !header_fine(d) {
+        return false;
+    }
+    let n = entry_count(d);
+    if !names_fine(d, n) {
+        return false;
+    }
+    families_fine(d, n)
+}

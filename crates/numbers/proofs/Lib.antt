@@ -1,0 +1,11 @@
+-- The laws of numbers and integers, and what the proofs of several functions use.
+pub mod Places
+pub mod Little
+pub mod Writing
+pub mod Numbers
+pub mod Integers
+pub mod Decimals
+pub mod Reading
+pub mod Putting
+pub mod Texts
+pub mod Worked

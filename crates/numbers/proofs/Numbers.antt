@@ -1,0 +1,170 @@
+-- Numbers of 1 to 4 bytes after their N: the shortest bytes write the number, none are shorter, and `numberAt` finds exactly what is written.
+-- Assumes nothing.
+--   number-below       a number is below 2 to the 32
+--   number-written     the shortest bytes write it
+--   number-shortest    and are no longer than any that do; -least: nor are those of a lesser number
+--   number-at          bytes that write n, at a place, are found there
+--   at-number          what is found is written there
+--   at-within          its bounds; found-bounds: the same for a caller of `number_at`
+use mathlib.Core.Path.{_≡_, refl, sym, ap, _∙_}
+use mathlib.Core.List.{List, [], _∷_, _++_}
+use mathlib.Core.Bool.{Bool, true, false}
+use Prim.Native.Nat.{ℕ, suc, _+_, _-_, _^_, _<_, _≤_}
+use native.Mathlib.Omega.{arith}
+use lib.ListN.{length, drop}
+use lib.Seq.{slice, slice-cons, length-slice, drop-drop}
+use lib.Dec.{ltb, leb}
+use borrow.Author.Tests.{ltb-false, leb-false, le-ltb, lt-leb}
+use Rattle.terms.specs.Checks.{choose}
+use Rattle.numbers.specs.declared.Found.{Found}
+use Rattle.numbers.specs.declared.Found.the-variants.{Fault, Value}
+use Rattle.numbers.specs.Bytes.{Bytes, byte, little}
+use Rattle.numbers.specs.Number.{Number, numberAt, fewest, numberOf}
+use Rattle.numbers.specs.Met.{ValueMet, Within, NumberMet}
+use Rattle.numbers.proofs.Places.{first, slice-is, bytes-slice, bytes-at}
+use Rattle.numbers.proofs.Little.{limit, limit-up, fewest-until, until-bytes, until-few, until-some, until-says, until-short, little-below}
+
+-- the number of some bytes is below 256 to their count
+pub little-small : (v : List ℕ) → Bytes v → 1 ≤ length v → little v < limit 256 (length v - 1)
+little-small [] h g = absurd (omega arith)
+little-small (x ∷ v) h g =
+    let e : length v ≡ length (x ∷ v) - 1 = omega arith in
+    rw e at (little-below 256 x v h (bytes-at (x ∷ v) (length v) h))
+
+four : (v : List ℕ) → Bytes v → 1 ≤ length v → length v ≤ 4 → little v < 2 ^ 32
+unfolding limit
+four v h g l = omega (arith, little-small v h g, limit-up 256 (length v - 1) 3 (omega arith) (omega arith))
+
+pub number-below : {n : ℕ} {b : List ℕ} → Number n b → n < 2 ^ 32
+number-below t = omega (arith, four (t .digits) (t .bytes) (t .least) (t .most), t .says)
+
+pub number-written : (n : ℕ) → n < 2 ^ 32 → Number n (numberOf n)
+unfolding numberOf limit
+number-written n h =
+    let e = fewest-until 4 n in
+    record {
+      digits = fewest 4 n;
+      whole = refl;
+      least = omega (arith, ap length e, until-some 256 3 n);
+      most = omega (arith, ap length e, until-few 256 4 n);
+      bytes = rw e (until-bytes 256 4 n);
+      says = ap little e ∙ until-says 256 3 n (omega arith) (omega arith);
+    }
+
+-- of two numbers the lesser has no more bytes
+pub number-least : {n : ℕ} {b : List ℕ} (m : ℕ) → m ≤ n → Number n b → length (numberOf m) ≤ length b
+unfolding numberOf
+number-least {n} {b} m h t =
+    let g = little-small (t .digits) (t .bytes) (t .least) in
+    omega (arith, ap length (fewest-until 4 m), until-short 256 4 (length (t .digits) - 1) m (omega (arith, t .says)), ap length (t .whole), t .least)
+
+pub record Shortest (n : ℕ) (b : List ℕ) : Type 0 where
+  pub written : Number n (numberOf n)
+  pub least : length (numberOf n) ≤ length b
+
+pub number-shortest : {n : ℕ} {b : List ℕ} → Number n b → Shortest n b
+number-shortest {n} {b} t = record { written = number-written n (number-below t); least = number-least n (omega arith) t }
+
+pub number-long : (n : ℕ) → length (numberOf n) ≡ 1 + length (fewest 4 n)
+unfolding numberOf
+number-long n = omega arith
+
+pub number-at : (s b rest : List ℕ) (p e n : ℕ) → drop p s ≡ b ++ rest → Number n b → p + length b ≤ e → numberAt s p e ≡ Value n (length b - 1)
+unfolding numberAt
+number-at s b rest p e n y t h =
+    let v = t .digits in
+    let y₁ : drop p s ≡ length v ∷ (v ++ rest) = y ∙ ap (λ (l : List ℕ). l ++ rest) (t .whole) in
+    let g : byte s p ≡ length v = first s (v ++ rest) (length v) p y₁ in
+    let y₂ : drop (p + 1) s ≡ v ++ rest = sym (drop-drop 1 p s) ∙ ap (drop 1) y₁ in
+    let i : slice (p + 1) (p + 1 + length v) s ≡ v = slice-is s v rest (p + 1) y₂ in
+    let l : length b ≡ suc (length v) = ap length (t .whole) in
+    let a : leb e p ≡ false = lt-leb e p (omega arith) in
+    let c : ltb (length v) 1 ≡ false = le-ltb _ _ (t .least) in
+    let d : ltb 4 (length v) ≡ false = le-ltb _ _ (t .most) in
+    let f : ltb (e - (p + 1)) (length v) ≡ false = le-ltb (e - (p + 1)) (length v) (omega arith) in
+    let k : length v ≡ length b - 1 = omega arith in
+    rw (g, a, c, d, f, i, t .says, k)
+
+-- what a check that was passed tells
+passed : (t : Bool) (k : ℕ) (rest : Unit {0} → Found) (n w : ℕ) → choose t (λ _. Fault k) rest ≡ Value n w → (t ≡ false) × (rest tt ≡ Value n w)
+passed true k rest n w e = let z : _≡_ {A = ℕ} 0 1 = cc in absurd (omega arith)
+passed false k rest n w e = (refl, e)
+
+pub record Found-there (s : List ℕ) (p e n w : ℕ) : Type 0 where
+  pub least : 1 ≤ w
+  pub most : w ≤ 4
+  pub within : p + 1 + w ≤ e
+  pub width : byte s p ≡ w
+  pub value : little (slice (p + 1) (p + 1 + w) s) ≡ n
+
+pub found-there : (s : List ℕ) (p e n w : ℕ) → numberAt s p e ≡ Value n w → Found-there s p e n w
+unfolding numberAt
+found-there s p e n w x =
+    let a = passed (leb e p) _ _ n w x in
+    let b = passed (ltb (byte s p) 1) _ _ n w (a .1) in
+    let c = passed (ltb 4 (byte s p)) _ _ n w (b .1) in
+    let d = passed (ltb (e - (p + 1)) (byte s p)) _ _ n w (c .1) in
+    made (leb-false e p (a .0)) (ltb-false _ _ (b .0)) (ltb-false _ _ (c .0)) (ltb-false _ _ (d .0)) (value-of (d .1)) (width-of (d .1))
+  where
+    value-of : {a b c d : ℕ} → Value a b ≡ Value c d → a ≡ c
+    value-of e = cc
+
+    width-of : {a b c d : ℕ} → Value a b ≡ Value c d → b ≡ d
+    width-of e = cc
+
+    made : p < e → 1 ≤ byte s p → byte s p ≤ 4 → byte s p ≤ e - (p + 1) → little (slice (p + 1) (p + 1 + byte s p) s) ≡ n → byte s p ≡ w → Found-there s p e n w
+    made f g h i j k =
+        record {
+          least = omega arith;
+          most = omega arith;
+          within = omega arith;
+          width = k;
+          value = ap (λ (m : ℕ). little (slice (p + 1) (p + 1 + m) s)) (sym k) ∙ j;
+        }
+
+pub at-number : (s : List ℕ) (p e n w : ℕ) → Bytes s → e ≤ length s → numberAt s p e ≡ Value n w → Number n (slice p (p + 1 + w) s)
+at-number s p e n w hb he x = made (found-there s p e n w x)
+  where
+    made : Found-there s p e n w → Number n (slice p (p + 1 + w) s)
+    made t =
+        let v = slice (p + 1) (p + 1 + w) s in
+        let i : suc p ≡ p + 1 = omega arith in
+        let l : length v ≡ w = length-slice (p + 1) (p + 1 + w) s (omega (arith, t .within)) ∙ omega arith in
+        let c : slice p (p + 1 + w) s ≡ byte s p ∷ v = slice-cons p (p + 1 + w) s 0 (omega arith) (omega (arith, t .within)) ∙ ap (λ (k : ℕ). byte s p ∷ slice k (p + 1 + w) s) i in
+        let g : byte s p ≡ length v = t .width ∙ sym l in
+        record {
+          digits = v;
+          whole = c ∙ ap (λ (k : ℕ). k ∷ v) g;
+          least = omega (arith, t .least);
+          most = omega (arith, t .most);
+          bytes = bytes-slice s (p + 1) (p + 1 + w) hb;
+          says = t .value;
+        }
+
+pub at-within : (s : List ℕ) (p e : ℕ) → Bytes s → e ≤ length s → Within p e (numberAt s p e)
+at-within s p e hb he = go (numberAt s p e) refl
+  where
+    go : (r : Found) → numberAt s p e ≡ r → Within p e r
+    go (Fault k) x = tt
+    go (Value n w) x =
+        let t = found-there s p e n w x in
+        record { small = number-below (at-number s p e n w hb he x); least = t .least; most = t .most; within = t .within }
+
+-- the bounds, as a caller of `number_at` has them
+module _ (s : List ℕ) (p e : ℕ) (r : Found) (n w : ℕ) (m : NumberMet s p e r) (f : r ≡ Value n w) where
+  met : ValueMet p e n w
+  met = rw f at (m .met)
+
+  pub found-small : n < 2 ^ 32
+  found-small = met .small
+
+  pub found-least : 1 ≤ w
+  found-least = met .least
+
+  pub found-most : w ≤ 4
+  found-most = met .most
+
+  pub found-within : p + 1 + w ≤ e
+  found-within = met .within
+
+pub ruleset found-bounds = (found-small, found-least, found-most, found-within)

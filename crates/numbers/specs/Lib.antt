@@ -1,0 +1,5 @@
+pub mod Bytes
+pub mod Number
+pub mod Integer
+pub mod Decimal
+pub mod Met

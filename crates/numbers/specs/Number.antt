@@ -1,0 +1,42 @@
+-- Document 01, "The payload": "A non-negative number: one byte N, then N bytes. N is 1 to 4 (house); leading zeros are taken."
+--   Number n b       the bytes b write the number n
+--   numberAt s p e   the number that stands at p and has to end by e: its value and its width N, or the refusal
+--   numberOf n       the shortest bytes that write n
+use Prim.Native.Nat.{ℕ, zero, suc, _+_, _-_, _*_, _/_, _%_, _≤_}
+use mathlib.Core.Path.{_≡_}
+use mathlib.Core.List.{List, [], _∷_}
+use mathlib.Core.Bool.{Bool, true, false}
+use lib.ListN.{length}
+use lib.Seq.{slice}
+use lib.Dec.{ltb, leb}
+use Rattle.terms.specs.Limits.{numberLeast, numberMost}
+use Rattle.terms.specs.Refusals.{pastEnd, widthWrong}
+use Rattle.terms.specs.Checks.{choose}
+use Rattle.numbers.specs.declared.Found.{Found}
+use Rattle.numbers.specs.declared.Found.the-variants.{Fault, Value}
+use Rattle.numbers.specs.Bytes.{Bytes, byte, little}
+
+pub record Number (n : ℕ) (b : List ℕ) : Type 0 where
+  pub digits : List ℕ
+  pub whole : b ≡ length digits ∷ digits
+  pub least : numberLeast ≤ length digits
+  pub most : length digits ≤ numberMost
+  pub bytes : Bytes digits
+  pub says : little digits ≡ n
+
+-- "In a number, N is judged before its bytes": no byte for N is 4, N outside its limits 5, bytes missing 4
+unfoldable pub numberAt : List ℕ → ℕ → ℕ → Found
+numberAt s p e =
+    choose (leb e p) (λ _. Fault pastEnd) λ _.
+    choose (ltb (byte s p) numberLeast) (λ _. Fault widthWrong) λ _.
+    choose (ltb numberMost (byte s p)) (λ _. Fault widthWrong) λ _.
+    choose (ltb (e - (p + 1)) (byte s p)) (λ _. Fault pastEnd) λ _.
+    Value (little (slice (p + 1) (p + 1 + byte s p) s)) (byte s p)
+
+-- n in the fewest bytes, the least first; at least one, at most k
+unfoldable pub fewest : ℕ → ℕ → List ℕ
+fewest zero n = []
+fewest (suc k) n = n % 256 ∷ choose (ltb n 256) (λ _. []) (λ _. fewest k (n / 256))
+
+unfoldable pub numberOf : ℕ → List ℕ
+numberOf n = length (fewest numberMost n) ∷ fewest numberMost n

@@ -1,0 +1,7 @@
+pub mod Tree
+pub mod Strings
+pub mod Writes
+pub mod Fits
+pub mod Text
+pub mod Values
+pub mod Reading

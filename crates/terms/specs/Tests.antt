@@ -1,0 +1,17 @@
+-- Tests over ranges and lists.
+--   all k P    P holds of 0, 1, .. k - 1
+--   same a b   two lists of bytes are equal
+use Prim.Native.Nat.{ℕ, zero, suc}
+use mathlib.Core.List.{List, [], _∷_}
+use mathlib.Core.Bool.{Bool, true, false, _&&_}
+use lib.Dec.{eqb}
+
+unfoldable pub all : ℕ → (ℕ → Bool) → Bool
+all zero P = true
+all (suc k) P = all k P && P k
+
+unfoldable pub same : List ℕ → List ℕ → Bool
+same [] [] = true
+same [] (y ∷ b) = false
+same (x ∷ a) [] = false
+same (x ∷ a) (y ∷ b) = eqb x y && same a b

@@ -1,0 +1,1 @@
+// The writer of payloads. What texts mean, and what the writer answers, stands in specs/.

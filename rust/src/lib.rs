@@ -1,0 +1,13 @@
+//! Tests and measurements of the proved functions against plain Rust.
+//!
+//! - `dictionary`: document 01's rules for a dictionary, held by plain Rust: the rival.
+//! - `proved`: the proved functions, called through their C boundary.
+//! - `figure`: the dictionary of DSP0218's Figure 6.
+//! - `make`: dictionaries for both to judge: ordinary, small, hostile and damaged ones.
+//! - `random`: the numbers that the makers draw, the same for the same seed on every machine.
+
+pub mod dictionary;
+pub mod figure;
+pub mod make;
+pub mod proved;
+pub mod random;
