@@ -9,9 +9,9 @@ use native.Mathlib.Nat.{add-zero}
 use lib.ListN.{length, getD, replicate, length-replicate, getD-replicate, List·getD-eq-default}
 use lib.Dec.{leb, eqb}
 use borrow.Author.Tests.{eq-eqb, ne-eqb, le-leb, lt-leb, leb-true, leb-false, eqb-true, not-true, not-false}
-use Rattle.terms.specs.Tests.{all}
+use Rattle.terms.specs.Tests.{all, Passing}
 use Rattle.terms.specs.Checks.{choose}
-use Rattle.terms.proofs.Tests.{and-left, and-right, and-both, and-not-left, and-not-right, all-both, Passing, pass-start, pass-stop, pass-more, pass-done}
+use Rattle.terms.proofs.Tests.{and-left, and-right, and-both, and-not-left, and-not-right, all-both, pass-start, pass-stop, pass-more, pass-done}
 use Rattle.dictionary.specs.Rows.{entries, entriesEnd, kind, numberIn, firstChild, childCount}
 use Rattle.dictionary.specs.Accepts.{headerFine, blockFine, inTurn, member, stringChild, setFine, arrayFine, enumFine, leafForm, childless, childrenFine, nameFine, rowFine, accepts}
 use Rattle.dictionary.specs.Met.{Field, Rowed, Named, Marks, Marked}

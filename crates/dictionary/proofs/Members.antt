@@ -11,8 +11,8 @@ use lib.ListN.{length, getD, set}
 use lib.Seq.{slice, getD-set-other}
 use lib.Dec.{eqb}
 use borrow.Author.Tests.{eq-eqb, ne-eqb, eqb-true, eqb-false, not-true, not-false}
-use Rattle.terms.specs.Tests.{all, same}
-use Rattle.terms.proofs.Tests.{and-not-left, and-not-right, and-both, and-right, all-none, all-suc, all-at, all-fails, all-more, Passing, pass-start, pass-stop, pass-more, pass-done}
+use Rattle.terms.specs.Tests.{all, same, Passing}
+use Rattle.terms.proofs.Tests.{and-not-left, and-not-right, and-both, and-right, all-none, all-suc, all-at, all-fails, all-more, pass-start, pass-stop, pass-more, pass-done}
 use Rattle.dictionary.specs.Rows.{rowAt, entries, kind, numberIn, nameLength, nameOffset, name}
 use Rattle.dictionary.specs.Accepts.{differs, unlike, inTurn, member, stringChild, nameFine}
 use Rattle.dictionary.specs.Met.{Field, Rowed, Named, Settled, Marks, Marked}
@@ -94,15 +94,6 @@ module _ (d : List ℕ) (first p k : ℕ) (m : List ℕ) (km : Marks d m) (hk : 
       record { same = rw (ne-eqb (numberIn d (first + p)) p (rw (hk .same) at x)); marks-true = km }
 
   module _ (e : k ≡ p) where
-    pub settle-marked : (getD m (first + p) 0 ≡ 0 → ⊥) → Marked d (member d first p) true m
-    settle-marked x = record { same = sym (by (km .told (first + p) x)); marks-true = km }
-      where
-        by : Settled d (first + p) → member d first p ≡ true
-        by s =
-            let f : numberIn d (first + p) ≡ p = sym (hk .same) ∙ e in
-            let g : first + p - p ≡ first = omega arith in
-            all-at (member d first) (suc p) (rw (f, g) at (s .fine)) p (omega arith)
-
     pub settle-alike : (t : Bool) → t ≡ unlike d first p → not t ≡ true → Marked d (member d first p) false m
     unfolding member
     settle-alike t f g = record { same = sym (and-not-right (inTurn d first p) _ (sym f ∙ not-true t g)); marks-true = km }
@@ -123,7 +114,21 @@ module _ (d : List ℕ) (first p k : ℕ) (m : List ℕ) (km : Marks d m) (hk : 
         there j x true h = rw (eqb-true j (first + p) h) now
         there j x false h = km .told j (rw (getD-set-other m (first + p) j 1 0 (eqb-false j (first + p) h)) at x)
 
-pub ruleset settling = (settle-number, settle-marked, settle-alike, settle-new)
+pub ruleset settling = (settle-number, settle-alike, settle-new)
+
+-- those that are settled already
+module _ (d : List ℕ) (first count p : ℕ) (m : List ℕ) (km : Marks d m) where
+  pub front-here : 0 < p → p ≤ count → (getD m (first + p - 1) 0 ≡ 0 → ⊥) → (k : ℕ) → Field (numberIn d (first + p - 1)) 65536 k → k ≡ p - 1 → Passing (member d first) count p
+  front-here h l x k hk e = record { within = l; passed = by (km .told (first + p - 1) x) }
+    where
+      by : Settled d (first + p - 1) → all p (member d first) ≡ true
+      by s =
+          let f : numberIn d (first + p - 1) ≡ p - 1 = sym (hk .same) ∙ e in
+          let g : first + p - 1 - (p - 1) ≡ first = omega arith in
+          let y : suc (p - 1) ≡ p = omega arith in
+          rw y at (rw (f, g) at (s .fine))
+
+pub ruleset fronts = (pass-start, front-here)
 
 -- all children of a set or enum
 pub record Settling (d : List ℕ) (first count : ℕ) (m : List ℕ) (p : ℕ) : Type 0 where
@@ -131,40 +136,8 @@ pub record Settling (d : List ℕ) (first count : ℕ) (m : List ℕ) (p : ℕ) 
   pub marks-true : Marks d m
 
 module _ (d : List ℕ) (first count : ℕ) (m : List ℕ) where
-  pub members-none : count ≡ 0 → Marks d m → Marked d (all count (member d first)) true m
-  members-none e km = record { same = sym (rw e (all-none (member d first))); marks-true = km }
-
-  module _ (x : count ≡ 0 → ⊥) where
-    last-row : first + count - 1 ≡ first + (count - 1)
-    last-row = omega (arith, x)
-
-    last-more : suc (count - 1) ≡ count
-    last-more = omega (arith, x)
-
-    last-settled : Settled d (first + (count - 1)) → numberIn d (first + (count - 1)) ≡ count - 1 → all count (member d first) ≡ true
-    last-settled s e =
-        let g : first + (count - 1) - (count - 1) ≡ first = omega arith in
-        rw last-more at (rw (e, g) at (s .fine))
-
-    pub members-marked : (k : ℕ) → Field (numberIn d (first + count - 1)) 65536 k → (getD m (first + count - 1) 0 ≡ 0 → ⊥) → Marks d m → Marked d (all count (member d first)) (eqb k (count - 1)) m
-    members-marked k hk y km =
-        record {
-          same = go (eqb k (count - 1)) refl;
-          marks-true = km;
-        }
-      where
-        number : numberIn d (first + (count - 1)) ≡ k
-        number = sym (rw last-row at (hk .same))
-
-        go : (t : Bool) → eqb k (count - 1) ≡ t → t ≡ all count (member d first)
-        go true e = sym (last-settled (rw last-row at (km .told (first + count - 1) y)) (number ∙ eqb-true k (count - 1) e))
-        go false e =
-            sym
-            (all-fails (member d first) count (count - 1) (omega (arith, x))
-            (out-of-turn d first (count - 1) λ z. eqb-false k (count - 1) e (sym number ∙ z)))
-
-  pub members-start : Marks d m → Settling d first count m 0
-  members-start km = record { passing = pass-start (member d first) count; marks-true = km }
+  pub members-start : (p : ℕ) → Passing (member d first) count p → Marks d m → Settling d first count m p
+  members-start p s km = record { passing = s; marks-true = km }
 
   module _ (p : ℕ) (s : Settling d first count m p) where
     pub members-done : count ≤ p → Marked d (all count (member d first)) true m
@@ -185,4 +158,4 @@ module _ (d : List ℕ) (first count : ℕ) (m : List ℕ) where
             marks-true = g .marks-true;
           }
 
-pub ruleset members = (members-none, members-marked, members-start, members-done, members-stop, members-more)
+pub ruleset members = (members-start, members-done, members-stop, members-more)

@@ -17,7 +17,7 @@ ghost use mathlib.Core.Bool.{true};
 ghost use Prim.Native.Nat.{ℕ, _+_, _-_, _*_, _≤_, _<_};
 ghost use lib.ListN.{length, getD};
 ghost use lib.Seq.{slice};
-ghost use Rattle.terms.specs.Tests.{all, same};
+ghost use Rattle.terms.specs.Tests.{all, same, Passing};
 ghost use Rattle.dictionary.specs.Rows.{rowAt, rowBytes, firstChild, childCount, name};
 ghost use Rattle.dictionary.specs.Accepts.{headerFine, childless, blockFine, inTurn, unlike, member, stringChild, setFine, arrayFine, enumFine, leafForm, childrenFine, nameFine, accepts};
 ghost use Rattle.dictionary.specs.Met.{Rowed, Named, Marks, Marked};
@@ -142,7 +142,27 @@ fn unlike_elders(d: &[u8], n: usize, first: usize, p: usize) -> bool
     true
 }
 
-// The child at position p, whose elder siblings were all found to sit well. A mark spares the comparison where another parent has had it made.
+// How many children from the first on another parent has had settled: where a marked one has its number, so have all its elders.
+fn settled_front(d: &[u8], n: usize, first: usize, count: usize, marks: &[u8; 6552]) -> usize
+    requires { ⌜ Rowed (now d) n ⌝ }
+    requires { ⌜ Marks (now d) (now marks) ⌝ }
+    requires { ⌜ first + count ≤ n ⌝ }
+    ensures { λ r. ⌜ Passing (member (now (d .entry)) first) count r ⌝ }
+{
+    let mut p = count;
+    while 0 < p {
+        let row = first + p - 1;
+        if marks[row] != 0 {
+            if sequence_number(d, row) == p - 1 {
+                return p;
+            }
+        }
+        p -= 1;
+    }
+    0
+}
+
+// The child at position p, whose elder siblings are settled.
 fn settle(d: &[u8], n: usize, first: usize, p: usize, marks: &mut [u8; 6552]) -> bool
     requires { ⌜ Named (now d) n ⌝ }
     requires { ⌜ Marks (now d) (now marks) ⌝ }
@@ -153,9 +173,6 @@ fn settle(d: &[u8], n: usize, first: usize, p: usize, marks: &mut [u8; 6552]) ->
     if sequence_number(d, row) != p {
         return false;
     }
-    if marks[row] != 0 {
-        return true;
-    }
     if !unlike_elders(d, n, first, p) {
         return false;
     }
@@ -163,21 +180,14 @@ fn settle(d: &[u8], n: usize, first: usize, p: usize, marks: &mut [u8; 6552]) ->
     true
 }
 
-// The children of a set or enum. Where the last is marked, so is every other, and only its number is left to see.
+// The children of a set or enum.
 fn members_fine(d: &[u8], n: usize, first: usize, count: usize, marks: &mut [u8; 6552]) -> bool
     requires { ⌜ Named (now d) n ⌝ }
     requires { ⌜ Marks (now d) (now marks) ⌝ }
     requires { ⌜ first + count ≤ n ⌝ }
     ensures { λ r. ⌜ Marked (now (d .entry)) (all count (member (now (d .entry)) first)) r (now (marks .exit)) ⌝ }
 {
-    if count == 0 {
-        return true;
-    }
-    let last = first + count - 1;
-    if marks[last] != 0 {
-        return sequence_number(d, last) == count - 1;
-    }
-    let mut p: usize = 0;
+    let mut p = settled_front(d, n, first, count, marks);
     while p < count {
         if !settle(d, n, first, p, marks) {
             return false;

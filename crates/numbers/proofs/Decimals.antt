@@ -5,8 +5,10 @@
 --   text-integral, text-says     the text of i is in the grammar, and says i
 --   told                         what a text says, 8 bytes hold; and the text is its text
 --   text-injective               two integers with one text are one
+--   text-cut                     a text that begins with an integer begins with one only
+--   text-bytes                   a text is bytes
 use mathlib.Core.Path.{_≡_, refl, sym, ap, _∙_}
-use mathlib.Core.List.{List, [], _∷_, _++_, append-assoc, append-nil}
+use mathlib.Core.List.{List, [], _∷_, _++_, append-assoc, append-nil, head-eq-of-cons-eq, tail-eq-of-cons-eq}
 use mathlib.Core.Bool.{Bool, true, false, _&&_, _||_, true≢false}
 use Prim.Native.Nat.{ℕ, zero, suc, _+_, _-_, _*_, _/_, _%_, _^_, _<_, _≤_}
 use native.Mathlib.Omega.{arith}
@@ -18,6 +20,7 @@ use Rattle.numbers.specs.declared.Integer.{Integer}
 use Rattle.numbers.specs.declared.Integer.the-variants.{Plus, Minus}
 use Rattle.numbers.specs.declared.Said.{Said}
 use Rattle.numbers.specs.declared.Said.the-variants.{Wrong, Is}
+use Rattle.numbers.specs.Bytes.{Bytes}
 use Rattle.numbers.specs.Integer.{Held}
 use Rattle.numbers.specs.Decimal.{digits, decimal, decimalOf, digit, digitsOnly, plain, integral, valueFrom, below, integerSaid}
 use Rattle.numbers.specs.Met.{plusSaid, minusSaid}
@@ -344,3 +347,55 @@ told (c ∷ t) i e x = go (eqb c 45) refl
 -- the same, as a caller of `integer_said` has it
 pub said-held : (t : List ℕ) (r : Said) (i : Integer) → integral t ≡ true → r ≡ integerSaid t → r ≡ Is i → Held i
 said-held t r i e f g = (told t i e (sym f ∙ g)) .held
+
+digits-bytes : (t : List ℕ) → digitsOnly t ≡ true → Bytes t
+digits-bytes [] e = tt
+digits-bytes (c ∷ t) e = (omega (arith, digit-high c (only-head c t e)), digits-bytes t (only-tail c t e))
+
+pub text-bytes : (i : Integer) → Held i → Bytes (decimalOf i)
+unfolding decimalOf
+text-bytes (Plus n) h = digits-bytes (decimal n) ((decimal-led n (omega (arith, h))) .only)
+text-bytes (Minus n) h = (omega arith, digits-bytes (decimal (n + 1)) ((decimal-led (n + 1) (omega (arith, h))) .only))
+
+-- what comes after a text goes on with no digit
+abbrev pub Stop : List ℕ → Type 0
+Stop [] = Unit {0}
+Stop (c ∷ t) = digit c ≡ false
+
+stopped : (c : ℕ) (t x y : List ℕ) {A : Type 0} → digitsOnly (c ∷ t) ≡ true → Stop x → x ≡ (c ∷ t) ++ y → A
+stopped c t x y e s f = absurd (true≢false (sym (only-head c t e) ∙ (rw f at s)))
+
+digits-cut : (a b x y : List ℕ) → digitsOnly a ≡ true → digitsOnly b ≡ true → Stop x → Stop y → a ++ x ≡ b ++ y → (a ≡ b) × (x ≡ y)
+digits-cut [] [] x y f g s t e = (refl, e)
+digits-cut [] (c ∷ b) x y f g s t e = stopped c b x y g s e
+digits-cut (c ∷ a) [] x y f g s t e = stopped c a y x f t (sym e)
+digits-cut (c ∷ a) (d ∷ b) x y f g s t e =
+    let r = digits-cut a b x y (only-tail c a f) (only-tail d b g) s t (tail-eq-of-cons-eq e) in
+    let z = head-eq-of-cons-eq e in
+    (rw (z, r .0), r .1)
+
+-- no digits begin with a sign
+no-sign : (n : ℕ) (t x y : List ℕ) {A : Type 0} → Led n t → t ++ x ≡ 45 ∷ y → A
+no-sign n t x y {A = A} r e = go (r .head) (r .tail) (r .whole)
+  where
+    go : (c : ℕ) (v : List ℕ) → t ≡ c ∷ v → A
+    go c v f =
+        let o : digitsOnly (c ∷ v) ≡ true = ap digitsOnly (sym f) ∙ r .only in
+        let z : c ∷ (v ++ x) ≡ 45 ∷ y = ap (λ (l : List ℕ). l ++ x) (sym f) ∙ e in
+        absurd (led-sign n c v o (head-eq-of-cons-eq z))
+
+texts-cut : (i j : Integer) (x y : List ℕ) → Held i → Held j → Stop x → Stop y → decimalOf i ++ x ≡ decimalOf j ++ y → (decimalOf i ≡ decimalOf j) × (x ≡ y)
+unfolding decimalOf
+texts-cut (Plus n) (Plus m) x y h g s t e =
+    digits-cut (decimal n) (decimal m) x y ((decimal-led n (omega (arith, h))) .only) ((decimal-led m (omega (arith, g))) .only) s t e
+texts-cut (Plus n) (Minus m) x y h g s t e = no-sign n (decimal n) x (decimal (m + 1) ++ y) (decimal-led n (omega (arith, h))) e
+texts-cut (Minus n) (Plus m) x y h g s t e = no-sign m (decimal m) y (decimal (n + 1) ++ x) (decimal-led m (omega (arith, g))) (sym e)
+texts-cut (Minus n) (Minus m) x y h g s t e =
+    let r = digits-cut (decimal (n + 1)) (decimal (m + 1)) x y ((decimal-led (n + 1) (omega (arith, h))) .only) ((decimal-led (m + 1) (omega (arith, g))) .only) s t (tail-eq-of-cons-eq e) in
+    (ap (λ (l : List ℕ). 45 ∷ l) (r .0), r .1)
+
+-- a text that begins with an integer begins with one only
+pub text-cut : (i j : Integer) (x y : List ℕ) → Held i → Held j → Stop x → Stop y → decimalOf i ++ x ≡ decimalOf j ++ y → (i ≡ j) × (x ≡ y)
+text-cut i j x y h g s t e =
+    let r = texts-cut i j x y h g s t e in
+    (text-injective i j h g (r .0), r .1)

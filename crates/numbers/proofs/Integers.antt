@@ -1,8 +1,10 @@
 -- Integers of 1 to 8 bytes: the fewest bytes say the integer, no others that say it are fewer, and what any bytes say, 8 bytes hold.
 -- Assumes nothing.
---   brief-says        the fewest bytes say the integer; brief-size, brief-bytes: there are 1 to 8
---   says-held         what 1 to 8 bytes say, 8 bytes hold
---   brief-shortest    none that say i are fewer
+--   one-byte, two-bytes      80 is -128, and 80 00 is 128
+--   brief-says               the fewest bytes say the integer
+--   brief-size, brief-bytes  they are 1 to 8 bytes
+--   says-held                what 1 to 8 bytes say, 8 bytes hold
+--   brief-shortest           none that say i are fewer; brief-least: the same of what v says
 use mathlib.Core.Path.{_≡_, refl, ap, _∙_}
 use mathlib.Core.List.{List, [], _∷_}
 use mathlib.Core.Bool.{Bool, true, false}
@@ -18,6 +20,15 @@ use Rattle.numbers.specs.Bytes.{Bytes, byte, little}
 use Rattle.numbers.specs.Integer.{flip, integerOf, clear, briefOf, Held}
 use Rattle.numbers.proofs.Places.{bytes-at}
 use Rattle.numbers.proofs.Little.{limit, limit-up, clear-until, until-bytes, until-few, until-some, until-says, until-top, until-short, little-below}
+
+-- 80 is -128, and 80 00 is 128
+pub one-byte : integerOf (0x80 ∷ []) ≡ Minus 127
+unfolding integerOf little flip
+one-byte = refl
+
+pub two-bytes : integerOf (0x80 ∷ 0 ∷ []) ≡ Plus 128
+unfolding integerOf little flip
+two-bytes = refl
 
 pub flip-long : (v : List ℕ) → length (flip v) ≡ length v
 unfolding flip
@@ -113,48 +124,48 @@ top-limit (x ∷ v) h g t =
     rw e (little-below 128 x v h (rw e at t))
 
 -- what bytes say: a number below the limit of their count, with one sign or the other
-pub record Said-by (v : List ℕ) (n : ℕ) : Type 0 where
+pub record Bounded (v : List ℕ) (n : ℕ) : Type 0 where
   pub below : n < limit 128 (length v - 1)
 
-said-plus : (v : List ℕ) → Bytes v → 1 ≤ length v → byte v (length v - 1) < 128 → Said-by v (little v)
+said-plus : (v : List ℕ) → Bytes v → 1 ≤ length v → byte v (length v - 1) < 128 → Bounded v (little v)
 said-plus v h g t = record { below = top-limit v h g t }
 
-said-minus : (v : List ℕ) → Bytes v → 1 ≤ length v → 128 ≤ byte v (length v - 1) → Said-by v (little (flip v))
+said-minus : (v : List ℕ) → Bytes v → 1 ≤ length v → 128 ≤ byte v (length v - 1) → Bounded v (little (flip v))
 said-minus v h g t =
     let r = top-limit (flip v) (flip-bytes v) (omega (arith, flip-long v)) (omega (arith, flip-top v g, bytes-at v (length v - 1) h)) in
     record { below = rw (flip-long v) at r }
 
-said-held : (v : List ℕ) (n : ℕ) → length v ≤ 8 → Said-by v n → n < 2 ^ 63
+said-held : (v : List ℕ) (n : ℕ) → length v ≤ 8 → Bounded v n → n < 2 ^ 63
 unfolding limit
 said-held v n l r = omega (arith, r .below, limit-up 128 (length v - 1) 7 (omega arith) (omega arith))
 
-said-short : (v : List ℕ) (n : ℕ) → 1 ≤ length v → Said-by v n → length (clear 8 n) ≤ length v
+said-short : (v : List ℕ) (n : ℕ) → 1 ≤ length v → Bounded v n → length (clear 8 n) ≤ length v
 said-short v n l r = omega (arith, ap length (clear-until 8 n), until-short 128 8 (length v - 1) n (r .below))
 
-abbrev Says-by : List ℕ → Integer → Type 0
-Says-by v (Plus n) = Said-by v n
-Says-by v (Minus n) = Said-by v n
+abbrev BoundedBy : List ℕ → Integer → Type 0
+BoundedBy v (Plus n) = Bounded v n
+BoundedBy v (Minus n) = Bounded v n
 
-says-by : (v : List ℕ) → Bytes v → 1 ≤ length v → Says-by v (integerOf v)
+bounded-by : (v : List ℕ) → Bytes v → 1 ≤ length v → BoundedBy v (integerOf v)
 unfolding integerOf
-says-by v h g = go (ltb (byte v (length v - 1)) 128) refl
+bounded-by v h g = go (ltb (byte v (length v - 1)) 128) refl
   where
-    go : (t : Bool) → ltb (byte v (length v - 1)) 128 ≡ t → Says-by v (choose t (λ _. Plus (little v)) (λ _. Minus (little (flip v))))
+    go : (t : Bool) → ltb (byte v (length v - 1)) 128 ≡ t → BoundedBy v (choose t (λ _. Plus (little v)) (λ _. Minus (little (flip v))))
     go true e = said-plus v h g (ltb-true _ _ e)
     go false e = said-minus v h g (ltb-false _ _ e)
 
 pub says-held : (v : List ℕ) → Bytes v → 1 ≤ length v → length v ≤ 8 → Held (integerOf v)
-says-held v h g l = go (integerOf v) (says-by v h g)
+says-held v h g l = go (integerOf v) (bounded-by v h g)
   where
-    go : (i : Integer) → Says-by v i → Held i
+    go : (i : Integer) → BoundedBy v i → Held i
     go (Plus n) r = said-held v n l r
     go (Minus n) r = said-held v n l r
 
 pub brief-shortest : (v : List ℕ) (i : Integer) → Bytes v → 1 ≤ length v → integerOf v ≡ i → length (briefOf i) ≤ length v
 unfolding briefOf
-brief-shortest v i h g e = go i (rw e at (says-by v h g))
+brief-shortest v i h g e = go i (rw e at (bounded-by v h g))
   where
-    go : (i : Integer) → Says-by v i → length (briefOf i) ≤ length v
+    go : (i : Integer) → BoundedBy v i → length (briefOf i) ≤ length v
     go (Plus n) r = said-short v n g r
     go (Minus n) r = omega (arith, flip-long (clear 8 n), said-short v n g r)
 

@@ -1,4 +1,5 @@
 -- The laws of numbers and integers, and what the proofs of several functions use.
+pub mod Worked
 pub mod Places
 pub mod Little
 pub mod Writing
@@ -8,4 +9,3 @@ pub mod Decimals
 pub mod Reading
 pub mod Putting
 pub mod Texts
-pub mod Worked

@@ -3,11 +3,14 @@
 --   number-below       a number is below 2 to the 32
 --   number-written     the shortest bytes write it
 --   number-shortest    and are no longer than any that do; -least: nor are those of a lesser number
+--   number-some, -few  there are 2 to 5; number-long: one more than `fewest`
+--   number-bytes       they are bytes
+--   number-cut         bytes that begin with a number begin with one only
 --   number-at          bytes that write n, at a place, are found there
 --   at-number          what is found is written there
 --   at-within          its bounds; found-bounds: the same for a caller of `number_at`
 use mathlib.Core.Path.{_≡_, refl, sym, ap, _∙_}
-use mathlib.Core.List.{List, [], _∷_, _++_}
+use mathlib.Core.List.{List, [], _∷_, _++_, head-eq-of-cons-eq, tail-eq-of-cons-eq}
 use mathlib.Core.Bool.{Bool, true, false}
 use Prim.Native.Nat.{ℕ, suc, _+_, _-_, _^_, _<_, _≤_}
 use native.Mathlib.Omega.{arith}
@@ -69,6 +72,42 @@ pub number-long : (n : ℕ) → length (numberOf n) ≡ 1 + length (fewest 4 n)
 unfolding numberOf
 number-long n = omega arith
 
+-- there are 2 to 5
+pub number-some : (n : ℕ) → 2 ≤ length (numberOf n)
+number-some n = omega (arith, number-long n, ap length (fewest-until 4 n), until-some 256 3 n)
+
+pub number-few : (n : ℕ) → length (numberOf n) ≤ 5
+number-few n = omega (arith, number-long n, ap length (fewest-until 4 n), until-few 256 4 n)
+
+pub number-bytes : {n : ℕ} {b : List ℕ} → Number n b → Bytes b
+number-bytes t = rw (t .whole) (omega (arith, t .most), t .bytes)
+
+same-front : (a b c d : List ℕ) → length a ≡ length b → a ++ c ≡ b ++ d → (a ≡ b) × (c ≡ d)
+same-front [] [] c d h e = (refl, e)
+same-front [] (y ∷ b) c d h e = absurd (omega arith)
+same-front (x ∷ a) [] c d h e = absurd (omega arith)
+same-front (x ∷ a) (y ∷ b) c d h e =
+    let g : length a ≡ length b = omega arith in
+    let r = same-front a b c d g (tail-eq-of-cons-eq e) in
+    let z = head-eq-of-cons-eq e in
+    (rw (z, r .0), r .1)
+
+pub record Same (n m : ℕ) (a b c d : List ℕ) : Type 0 where
+  pub numbers : n ≡ m
+  pub bytes : a ≡ b
+  pub afters : c ≡ d
+
+-- bytes that begin with a number begin with one only
+pub number-cut : {n m : ℕ} {a b : List ℕ} (c d : List ℕ) → Number n a → Number m b → a ++ c ≡ b ++ d → Same n m a b c d
+number-cut {n} {m} {a} {b} c d x y e =
+    let f : length (x .digits) ∷ (x .digits ++ c) ≡ length (y .digits) ∷ (y .digits ++ d) = ap (λ (l : List ℕ). l ++ c) (sym (x .whole)) ∙ e ∙ ap (λ (l : List ℕ). l ++ d) (y .whole) in
+    let r = same-front (x .digits) (y .digits) c d (head-eq-of-cons-eq f) (tail-eq-of-cons-eq f) in
+    record {
+      numbers = sym (x .says) ∙ ap little (r .0) ∙ y .says;
+      bytes = x .whole ∙ ap (λ (v : List ℕ). length v ∷ v) (r .0) ∙ sym (y .whole);
+      afters = r .1;
+    }
+
 pub number-at : (s b rest : List ℕ) (p e n : ℕ) → drop p s ≡ b ++ rest → Number n b → p + length b ≤ e → numberAt s p e ≡ Value n (length b - 1)
 unfolding numberAt
 number-at s b rest p e n y t h =
@@ -90,16 +129,16 @@ passed : (t : Bool) (k : ℕ) (rest : Unit {0} → Found) (n w : ℕ) → choose
 passed true k rest n w e = let z : _≡_ {A = ℕ} 0 1 = cc in absurd (omega arith)
 passed false k rest n w e = (refl, e)
 
-pub record Found-there (s : List ℕ) (p e n w : ℕ) : Type 0 where
+pub record Stands (s : List ℕ) (p e n w : ℕ) : Type 0 where
   pub least : 1 ≤ w
   pub most : w ≤ 4
   pub within : p + 1 + w ≤ e
   pub width : byte s p ≡ w
   pub value : little (slice (p + 1) (p + 1 + w) s) ≡ n
 
-pub found-there : (s : List ℕ) (p e n w : ℕ) → numberAt s p e ≡ Value n w → Found-there s p e n w
+pub stands : (s : List ℕ) (p e n w : ℕ) → numberAt s p e ≡ Value n w → Stands s p e n w
 unfolding numberAt
-found-there s p e n w x =
+stands s p e n w x =
     let a = passed (leb e p) _ _ n w x in
     let b = passed (ltb (byte s p) 1) _ _ n w (a .1) in
     let c = passed (ltb 4 (byte s p)) _ _ n w (b .1) in
@@ -112,7 +151,7 @@ found-there s p e n w x =
     width-of : {a b c d : ℕ} → Value a b ≡ Value c d → b ≡ d
     width-of e = cc
 
-    made : p < e → 1 ≤ byte s p → byte s p ≤ 4 → byte s p ≤ e - (p + 1) → little (slice (p + 1) (p + 1 + byte s p) s) ≡ n → byte s p ≡ w → Found-there s p e n w
+    made : p < e → 1 ≤ byte s p → byte s p ≤ 4 → byte s p ≤ e - (p + 1) → little (slice (p + 1) (p + 1 + byte s p) s) ≡ n → byte s p ≡ w → Stands s p e n w
     made f g h i j k =
         record {
           least = omega arith;
@@ -123,9 +162,9 @@ found-there s p e n w x =
         }
 
 pub at-number : (s : List ℕ) (p e n w : ℕ) → Bytes s → e ≤ length s → numberAt s p e ≡ Value n w → Number n (slice p (p + 1 + w) s)
-at-number s p e n w hb he x = made (found-there s p e n w x)
+at-number s p e n w hb he x = made (stands s p e n w x)
   where
-    made : Found-there s p e n w → Number n (slice p (p + 1 + w) s)
+    made : Stands s p e n w → Number n (slice p (p + 1 + w) s)
     made t =
         let v = slice (p + 1) (p + 1 + w) s in
         let i : suc p ≡ p + 1 = omega arith in
@@ -147,7 +186,7 @@ at-within s p e hb he = go (numberAt s p e) refl
     go : (r : Found) → numberAt s p e ≡ r → Within p e r
     go (Fault k) x = tt
     go (Value n w) x =
-        let t = found-there s p e n w x in
+        let t = stands s p e n w x in
         record { small = number-below (at-number s p e n w hb he x); least = t .least; most = t .most; within = t .within }
 
 -- the bounds, as a caller of `number_at` has them

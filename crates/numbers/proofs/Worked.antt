@@ -1,4 +1,4 @@
--- Worked examples: integers of one byte and two about 128, and both ends of the range, in bytes and in text.
+-- Worked examples: 128 and both ends of the range, in bytes and in text; and the faults of a number. What 80 and 80 00 say stands in Integers.
 -- Assumes nothing.
 use mathlib.Core.Path.{_≡_, refl}
 use mathlib.Core.List.{[], _∷_}
@@ -8,18 +8,10 @@ use Rattle.numbers.specs.declared.Said.the-variants.{Wrong}
 use Rattle.numbers.specs.declared.Found.the-variants.{Fault, Value}
 use Rattle.numbers.specs.Bytes.{little}
 use Rattle.numbers.specs.Number.{numberAt, numberOf, fewest}
-use Rattle.numbers.specs.Integer.{integerOf, briefOf, flip, clear}
+use Rattle.numbers.specs.Integer.{briefOf, flip, clear}
 use Rattle.numbers.specs.Decimal.{decimalOf, decimal, digits, integerSaid, valueFrom}
 
--- 80 is -128, and 80 00 is 128
-one-byte : integerOf (0x80 ∷ []) ≡ Minus 127
-unfolding integerOf little flip
-one-byte = refl
-
-two-bytes : integerOf (0x80 ∷ 0 ∷ []) ≡ Plus 128
-unfolding integerOf little flip
-two-bytes = refl
-
+-- 128 takes two bytes, and -128 one
 brief-128 : briefOf (Plus 128) ≡ 0x80 ∷ 0 ∷ []
 unfolding briefOf clear
 brief-128 = refl

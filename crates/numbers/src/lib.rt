@@ -39,6 +39,9 @@ const NUMBER_MOST: usize = 4;
 // 2 to the 63: the least number that no integer is, but with a sign
 const HALF: u64 = 9223372036854775808;
 
+// 8 bytes of ones, from which a number's complement is taken
+const ONES: u64 = 18446744073709551615;
+
 pub fn wide(x: u8) -> usize
     ensures { λ r. ⌜ Widened x r ⌝ }
 {
@@ -195,7 +198,7 @@ pub fn put_integer(out: &mut [u8], pos: usize, i: Integer) -> usize
             return put_lowest(out, pos, n, clear_width(n));
         }
         Integer::Minus(n) => {
-            return put_lowest(out, pos, 18446744073709551615 - n, clear_width(n));
+            return put_lowest(out, pos, ONES - n, clear_width(n));
         }
     }
 }
@@ -231,10 +234,10 @@ fn put_digits(out: &mut [u8], pos: usize, n: u64) -> usize
     ensures { λ r. ⌜ Wrote (now (out .entry)) pos (decimal n) r (now (out .exit)) ⌝ }
 {
     if n < 10 {
-        return put(out, pos, 48 + n as u8);
+        return put(out, pos, b'0' + n as u8);
     }
     let p = put_digits(out, pos, n / 10);
-    put(out, p, 48 + (n % 10) as u8)
+    put(out, p, b'0' + (n % 10) as u8)
 }
 
 pub fn put_decimal(out: &mut [u8], pos: usize, i: Integer) -> usize
@@ -246,7 +249,7 @@ pub fn put_decimal(out: &mut [u8], pos: usize, i: Integer) -> usize
             return put_digits(out, pos, n);
         }
         Integer::Minus(n) => {
-            let p = put(out, pos, 45);
+            let p = put(out, pos, b'-');
             return put_digits(out, p, n + 1);
         }
     }
@@ -258,7 +261,7 @@ fn next_value(n: u64, c: u8) -> u64
     ensures { λ r. ⌜ r ≡ capped (next n c) ⌝ }
 {
     if n <= HALF / 10 {
-        return n * 10 + (c - 48) as u64;
+        return n * 10 + (c - b'0') as u64;
     }
     HALF + 1
 }
@@ -304,7 +307,7 @@ pub fn integer_said(s: &[u8], at: usize, end: usize) -> Said
     requires { ⌜ (at < end) × (end ≤ length (now s)) × (integral (slice at end (now s)) ≡ true) ⌝ }
     ensures { λ r. ⌜ r ≡ integerSaid (slice at end (now (s .entry))) ⌝ }
 {
-    if s[at] == 45 {
+    if s[at] == b'-' {
         return minus_said(value_at(s, at + 1, end));
     }
     plus_said(value_at(s, at, end))

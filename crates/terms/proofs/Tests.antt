@@ -8,7 +8,7 @@ use native.Mathlib.Omega.{arith}
 use native.Mathlib.Numerals.{add-one}
 use lib.Dec.{eqb}
 use borrow.Author.Tests.{eqb-true, eqb-false, eq-eqb, not-true, not-false}
-use Rattle.terms.specs.Tests.{all, same}
+use Rattle.terms.specs.Tests.{all, same, Passing}
 
 pub and-left : (a b : Bool) → a && b ≡ true → a ≡ true
 and-left true b e = refl
@@ -96,11 +96,7 @@ same-eq a b e = rw e (same-refl b)
 pub same-ne : (a b : List ℕ) → (a ≡ b → ⊥) → same a b ≡ false
 same-ne a b f = not-so (same a b) λ e. f (same-true a b e)
 
--- A loop that stops at the first of n that fails: what holds when its test is reached, and each way on.
-pub record Passing (P : ℕ → Bool) (n i : ℕ) : Type 0 where
-  pub within : i ≤ n
-  pub passed : all i P ≡ true
-
+-- a loop that stops at the first of n that fails: each way on
 pub pass-start : (P : ℕ → Bool) (n : ℕ) → Passing P n 0
 pass-start P n = record { within = omega arith; passed = all-none P }
 

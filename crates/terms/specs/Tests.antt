@@ -1,7 +1,9 @@
 -- Tests over ranges and lists.
 --   all k P    P holds of 0, 1, .. k - 1
 --   same a b   two lists of bytes are equal
-use Prim.Native.Nat.{ℕ, zero, suc}
+--   Passing    a loop that tests 0, 1, .. n - 1 has come to i, and all before it passed
+use Prim.Native.Nat.{ℕ, zero, suc, _≤_}
+use mathlib.Core.Path.{_≡_}
 use mathlib.Core.List.{List, [], _∷_}
 use mathlib.Core.Bool.{Bool, true, false, _&&_}
 use lib.Dec.{eqb}
@@ -15,3 +17,7 @@ same [] [] = true
 same [] (y ∷ b) = false
 same (x ∷ a) [] = false
 same (x ∷ a) (y ∷ b) = eqb x y && same a b
+
+pub record Passing (P : ℕ → Bool) (n i : ℕ) : Type 0 where
+  pub within : i ≤ n
+  pub passed : all i P ≡ true

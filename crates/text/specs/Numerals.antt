@@ -3,7 +3,7 @@
 --   numeral w      w is such a number; `integral` of the numbers crate says that it has neither fraction nor exponent
 use Prim.Native.Nat.{ℕ, suc}
 use mathlib.Core.List.{List, [], _∷_}
-use mathlib.Core.Bool.{Bool, true, false, not, _&&_, _||_}
+use mathlib.Core.Bool.{Bool, true, _&&_, _||_}
 use lib.ListN.{length, take, drop}
 use lib.Dec.{ltb, eqb}
 use Rattle.terms.specs.Checks.{choose}

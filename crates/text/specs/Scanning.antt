@@ -10,7 +10,7 @@ use lib.ListN.{length, drop}
 use lib.Seq.{slice}
 use lib.Dec.{leb, eqb}
 use Rattle.terms.specs.Refusals.{badText}
-use Rattle.terms.specs.Checks.{choose, Judged, refused, good, refuse, need, after}
+use Rattle.terms.specs.Checks.{choose, Judged, good, refuse, need, after}
 use Rattle.terms.specs.Tests.{same}
 use Rattle.numbers.specs.Bytes.{byte}
 use Rattle.numbers.specs.Decimal.{integral}

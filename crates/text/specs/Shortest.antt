@@ -4,7 +4,7 @@
 --   payloadOf t     the payload whose root has the members t
 use Prim.Native.Nat.{ℕ, _*_}
 use mathlib.Core.List.{List, [], _∷_, _++_}
-use mathlib.Core.Bool.{Bool, true, false}
+use mathlib.Core.Bool.{true, false}
 use lib.ListN.{length}
 use Rattle.numbers.specs.Number.{numberOf}
 use Rattle.numbers.specs.Integer.{briefOf}

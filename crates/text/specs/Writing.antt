@@ -6,7 +6,7 @@
 --   writes d s room            the answer to a call; number, place, count, length and buffer come from it as the reader's do
 use Prim.Native.Nat.{ℕ, zero, suc}
 use mathlib.Core.List.{List, [], _∷_}
-use mathlib.Core.Bool.{Bool, true, false, not, _&&_, _||_}
+use mathlib.Core.Bool.{not, _&&_, _||_}
 use lib.ListN.{length}
 use lib.Dec.{ltb, leb, eqb}
 use Rattle.terms.specs.Limits.{payloadMost, textLeast, textMost, depthMost}

@@ -1,5 +1,6 @@
 use Prim.Native.Nat.{_-_}
-use Rattle.terms.proofs.Tests.{Passing, passing}
+use Rattle.terms.specs.Tests.{Passing}
+use Rattle.terms.proofs.Tests.{passing}
 use Rattle.dictionary.specs.Accepts.{nameFine}
 use borrow.Author.Needs.{needs}
 use Rattle.dictionary.proofs.judge.names_fine.Statement.{statement}

@@ -1,5 +1,5 @@
 use Prim.Native.Nat.{_-_}
-use Rattle.terms.proofs.Tests.{Passing}
+use Rattle.terms.specs.Tests.{Passing}
 use Rattle.dictionary.specs.Accepts.{stringChild}
 use Rattle.dictionary.proofs.Members.{strings}
 use borrow.Author.Needs.{needs}

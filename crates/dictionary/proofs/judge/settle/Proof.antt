@@ -16,23 +16,17 @@ sequence-number-requires c κs = search needs
 returns : tie.Need-returns
 returns c = search (settling, needs)
 
-element-copy-out-if2 : tie.Need-element-copy-out-if2
-element-copy-out-if2 c = search needs
+unlike-elders-requires : tie.Need-unlike-elders-requires
+unlike-elders-requires c κs = search needs
 
 returns-2 : tie.Need-returns-2
 returns-2 c = search (settling, needs)
 
-unlike-elders-requires : tie.Need-unlike-elders-requires
-unlike-elders-requires c κs = search needs
-
-returns-3 : tie.Need-returns-3
-returns-3 c = search (settling, needs)
-
 element-write-marks : tie.Need-element-write-marks
 element-write-marks c = search needs
 
-returns-4 : tie.Need-returns-4
-returns-4 c = search (settling, needs)
+returns-3 : tie.Need-returns-3
+returns-3 c = search (settling, needs)
 
 pub settle-spec : {M : Type 1} → statement M
 settle-spec =
@@ -41,9 +35,7 @@ settle-spec =
     add-row
     sequence-number-requires
     returns
-    element-copy-out-if2
-    returns-2
     unlike-elders-requires
-    returns-3
+    returns-2
     element-write-marks
-    returns-4)
+    returns-3)
