@@ -5,3 +5,6 @@ pub mod Naming
 pub mod Members
 pub mod Families
 pub mod Accepted
+pub mod Seeking
+pub mod Laws
+pub mod Asking

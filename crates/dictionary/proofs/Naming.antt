@@ -13,7 +13,7 @@ use borrow.Author.Tests.{le-leb, lt-leb, eq-eqb, ne-eqb, eqb-true, leb-true}
 use Rattle.terms.specs.Tests.{all, same}
 use Rattle.terms.proofs.Tests.{and-not-right, and-left, and-right, all-at, same-eq, same-ne}
 use Rattle.dictionary.specs.Rows.{rowAt, entries, entriesEnd, nameLength, nameOffset, name}
-use Rattle.dictionary.specs.Accepts.{nameByteAt, nameFine}
+use Rattle.dictionary.specs.Accepts.{nameByte, nameByteAt, nameFine}
 use Rattle.dictionary.specs.Met.{Field, Rowed, Named}
 
 -- the rule: offset 0 with length 0, or the rest
@@ -128,6 +128,11 @@ name-cases d r true true f g z u v h =
 name-cases d r true false f g z u v h = lying d r z u v h
 name-cases d r false y f g z u v h = lying d r z u v h
 
+printed : (d : List ℕ) (r : ℕ) (x y : Bool) → eqb (nameOffset d r) 0 ≡ x → eqb (nameLength d r) 0 ≡ y → (z v : Bool) → 1 ≤ nameLength d r → (x && y) || (z && v) ≡ true → v ≡ true
+printed d r true true f g z v l h = let k = eqb-true (nameLength d r) 0 g in absurd (omega (arith, k))
+printed d r true false f g z v l h = and-right z v h
+printed d r false y f g z v l h = and-right z v h
+
 module _ (d : List ℕ) (n : ℕ) (w : Named d n) (r : ℕ) (h : r < n) where
   fine : nameFine d r ≡ true
   fine = all-at (nameFine d) n (w .names) r h
@@ -143,6 +148,18 @@ module _ (d : List ℕ) (n : ℕ) (w : Named d n) (r : ℕ) (h : r < n) where
   pub name-long : length (name d r) ≡ nameLength d r - 1
   unfolding name
   name-long = length-slice (nameOffset d r) (nameOffset d r + nameLength d r - 1) d (omega (arith, name-inside)) ∙ omega arith
+
+  pub name-printable : (i : ℕ) → i < length (name d r) → nameByte (getD (name d r) i 0) ≡ true
+  unfolding nameFine name
+  name-printable i l =
+      let o = nameOffset d r in
+      let k = nameLength d r in
+      let n : i < k - 1 = rw name-long at l in
+      let e : o + k - 1 ≡ o + (k - 1) = omega arith in
+      let v = all (k - 1) (nameByteAt d o) in
+      let z = leb 2 k && leb (entriesEnd d) o && leb (o + k) (length d) && eqb (getD d (o + k - 1) 0) 0 in
+      let p = printed d r _ _ refl refl z v (omega arith) fine in
+      rw (ap (λ (z : ℕ). getD (slice o z d) i 0) e, getD-slice d o (k - 1) i n) (all-at (nameByteAt d o) (k - 1) p i n)
 
 -- a row's name against a part
 module _ (d : List ℕ) (n : ℕ) (w : Named d n) (r at long k : ℕ) (hk : Field (nameLength d r) 256 k) (b : (r < n) × (2 ≤ long) × (at + long ≤ length d)) where

@@ -16,8 +16,14 @@ unfoldable pub seek : ℕ → ℕ → (ℕ → Bool) → Child
 seek zero c test = Nothing
 seek (suc k) c test = choose (test c) (λ _. At c) (λ _. seek k (suc c) test)
 
+abbrev pub hasNumber : List ℕ → ℕ → ℕ → Bool
+hasNumber d n c = eqb (numberIn d c) n
+
+abbrev pub hasName : List ℕ → List ℕ → ℕ → Bool
+hasName d t c = same (name d c) t
+
 unfoldable pub childNumbered : List ℕ → ℕ → ℕ → Child
-childNumbered d r n = seek (childCount d r) (firstChild d r) (λ c. eqb (numberIn d c) n)
+childNumbered d r n = seek (childCount d r) (firstChild d r) (hasNumber d n)
 
 unfoldable pub childNamed : List ℕ → ℕ → List ℕ → Child
-childNamed d r t = seek (childCount d r) (firstChild d r) (λ c. same (name d c) t)
+childNamed d r t = seek (childCount d r) (firstChild d r) (hasName d t)

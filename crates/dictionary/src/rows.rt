@@ -1,4 +1,5 @@
 // A dictionary's fields, read where specs/Rows says that they stand.
+use numbers::wide;
 ghost use mathlib.Core.Path.{_≡_};
 ghost use Prim.Native.Nat.{_+_, _*_, _≤_, _<_};
 ghost use lib.ListN.{length};
@@ -8,12 +9,6 @@ ghost use Rattle.dictionary.specs.Met.{Field};
 
 const HEADER_BYTES: usize = 12;
 const ROW_BYTES: usize = 10;
-
-fn wide(x: u8) -> usize
-    ensures { λ r. ⌜ Field x 256 r ⌝ }
-{
-    x as usize
-}
 
 fn short_at(d: &[u8], at: usize) -> usize
     requires { ⌜ at + 2 ≤ length (now d) ⌝ }

@@ -2,13 +2,9 @@
 --   Bytes v       every element of v is below 256
 --   little v      the number that v writes, the least byte first ("Multi-byte numbers are little-endian")
 --   short, long   the numbers of two and of four bytes at a place of s
---   all k P       P holds of 0, 1, .. k - 1
---   same a b      two lists of bytes are equal
-use Prim.Native.Nat.{ℕ, zero, suc, _+_, _*_, _<_}
+use Prim.Native.Nat.{ℕ, _+_, _*_, _<_}
 use mathlib.Core.List.{List, [], _∷_}
-use mathlib.Core.Bool.{Bool, true, false, _&&_}
 use lib.ListN.{getD}
-use lib.Dec.{eqb}
 
 abbrev pub Bytes : List ℕ → Type 0
 Bytes [] = Unit {0}
@@ -26,13 +22,3 @@ short s p = byte s p + 256 * byte s (p + 1)
 
 unfoldable pub long : List ℕ → ℕ → ℕ
 long s p = short s p + 65536 * short s (p + 2)
-
-unfoldable pub all : ℕ → (ℕ → Bool) → Bool
-all zero P = true
-all (suc k) P = all k P && P k
-
-unfoldable pub same : List ℕ → List ℕ → Bool
-same [] [] = true
-same [] (y ∷ b) = false
-same (x ∷ a) [] = false
-same (x ∷ a) (y ∷ b) = eqb x y && same a b

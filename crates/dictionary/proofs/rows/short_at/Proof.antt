@@ -4,7 +4,7 @@ use Rattle.dictionary.proofs.rows.short_at.Statement.{statement}
 use Rattle.dictionary.proofs.rows.short_at.Tie as tie
 use Rattle.dictionary.proofs.rows.short_at.Reads as reads
 use Rattle.dictionary.proofs.rows.short_at.Lts as lts
-use Rattle.dictionary.proofs.rows.wide.Reads as wide-reads
+use Rattle.numbers.proofs.wide.Reads as wide-reads
 
 shared-slice-read-wide : tie.Need-shared-slice-read-wide
 shared-slice-read-wide c = search needs

@@ -4,7 +4,7 @@ use Rattle.dictionary.proofs.rows.takes_null.Statement.{statement}
 use Rattle.dictionary.proofs.rows.takes_null.Tie as tie
 use Rattle.dictionary.proofs.rows.takes_null.Reads as reads
 use Rattle.dictionary.proofs.rows.takes_null.Lts as lts
-use Rattle.dictionary.proofs.rows.wide.Reads as wide-reads
+use Rattle.numbers.proofs.wide.Reads as wide-reads
 
 mul-wide : tie.Need-mul-wide
 mul-wide c = search needs

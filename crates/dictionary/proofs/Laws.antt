@@ -1,0 +1,221 @@
+-- What acceptance gives, for the crates above: the header, every row's name, and the children of a set, array or enum.
+-- Assumes nothing.
+use Prim.Native.Nat.{ℕ, zero, suc, _+_, _-_, _*_, _≤_, _<_}
+use mathlib.Core.Path.{_≡_, refl, sym, ap, _∙_}
+use mathlib.Core.List.{List}
+use mathlib.Core.Bool.{Bool, true, false, not, _&&_, _||_, true≢false}
+use native.Mathlib.Omega.{arith}
+use native.Mathlib.Nat.{add-zero, add-suc, suc-add}
+use lib.ListN.{length, getD}
+use lib.Seq.{slice}
+use lib.Dec.{leb, ltb, eqb}
+use borrow.Author.Tests.{leb-true, eqb-true, eqb-false, eq-eqb, ne-eqb, not-true, not-false}
+use Rattle.terms.specs.Tests.{all, same}
+use Rattle.terms.specs.Checks.{choose}
+use Rattle.terms.proofs.Tests.{and-left, and-right, so-not, all-at, all-of, all-both, same-eq, same-true}
+use Rattle.dictionary.specs.declared.Child.{Child}
+use Rattle.dictionary.specs.declared.Child.the-variants.{At, Nothing}
+use Rattle.dictionary.specs.Formats.{setForm, arrayForm, enumForm}
+use Rattle.dictionary.specs.Rows.{entries, entriesEnd, kind, numberIn, firstChild, childCount, nameLength, nameOffset, name}
+use Rattle.dictionary.specs.Accepts.{headerFine, blockFine, inTurn, unlike, differs, member, stringChild, setFine, arrayFine, enumFine, leafForm, childless, childrenFine, nameByte, nameByteAt, nameFine, rowFine, accepts}
+use Rattle.dictionary.specs.Children.{seek, hasNumber, hasName, childNumbered, childNamed}
+use Rattle.dictionary.specs.Given.{Headed, Worded, parent, Family, Members}
+use Rattle.dictionary.specs.Met.{Rowed, Named}
+use Rattle.dictionary.proofs.Headers.{block-inside}
+use Rattle.dictionary.proofs.Naming.{name-inside, name-two, name-long, name-printable}
+use Rattle.dictionary.proofs.Accepted.{header-gives}
+use Rattle.dictionary.proofs.Seeking.{seek-none, seek-here, seek-next, seek-found}
+
+member-unlike : (d : List ℕ) (first p : ℕ) → member d first p ≡ true → unlike d first p ≡ true
+unfolding member
+member-unlike d first p e = and-right (inTurn d first p) _ e
+
+member-named : (d : List ℕ) (first p : ℕ) → member d first p ≡ true → nameLength d (first + p) ≡ 0 → ⊥
+unfolding unlike
+member-named d first p e =
+    eqb-false (nameLength d (first + p)) 0
+    (not-true _ (and-left (not (eqb (nameLength d (first + p)) 0)) _ (member-unlike d first p e)))
+
+member-differs : (d : List ℕ) (first p q : ℕ) → q < p → member d first p ≡ true → name d (first + q) ≡ name d (first + p) → ⊥
+unfolding unlike
+member-differs d first p q l e f =
+    so-not _
+    (not-true _ (all-at (differs d first p) p (and-right (not (eqb (nameLength d (first + p)) 0)) _ (member-unlike d first p e)) q l))
+    (same-eq _ _ f)
+
+-- the parts of an accepted dictionary
+module _ (d : List ℕ) (ok : accepts d ≡ true) where
+  header-ok : headerFine d ≡ true
+  unfolding accepts
+  header-ok = go (headerFine d) _ ok
+    where
+      go : (t u : Bool) → choose t (λ _. u) (λ _. false) ≡ true → t ≡ true
+      go true u e = refl
+      go false u e = e
+
+  rows-ok : all (entries d) (rowFine d) ≡ true
+  unfolding accepts
+  rows-ok = go (headerFine d) _ ok
+    where
+      go : (t u : Bool) → choose t (λ _. u) (λ _. false) ≡ true → u ≡ true
+      go true u e = e
+      go false u e = absurd (true≢false (sym e))
+
+  pub accepted-header : Headed d
+  accepted-header = header-gives d header-ok
+
+  pub accepted-rowed : Rowed d (entries d)
+  accepted-rowed = let h = accepted-header in record { counted = refl; inside = h .inside; few = h .most }
+
+  names-ok : all (entries d) (nameFine d) ≡ true
+  unfolding rowFine
+  names-ok = and-left (all (entries d) (nameFine d)) (all (entries d) (childrenFine d)) (sym (all-both (nameFine d) (childrenFine d) (entries d)) ∙ rows-ok)
+
+  pub accepted-named : Named d (entries d)
+  accepted-named = record { rowed = accepted-rowed; names = names-ok }
+
+  module _ (r : ℕ) (h : r < entries d) where
+    pub accepted-name : Worded d r
+    accepted-name =
+        let w = accepted-named in
+        record {
+          inside = name-inside d (entries d) w r h;
+          two = name-two d (entries d) w r h;
+          long = name-long d (entries d) w r h;
+          printable = name-printable d (entries d) w r h;
+        }
+
+    children-ok : childrenFine d r ≡ true
+    unfolding rowFine
+    children-ok = and-right (nameFine d r) (childrenFine d r) (all-at (rowFine d) (entries d) rows-ok r h)
+
+    -- whichever of the three formats the row has, what each of them gives
+    pub by-format : (A : Type 0) → parent d r ≡ true → (setFine d r ≡ true → A) → (kind d r ≡ arrayForm → arrayFine d r ≡ true → A) → (enumFine d r ≡ true → A) → A
+    unfolding childrenFine parent
+    by-format A is f g k =
+        go (eqb (kind d r) setForm) (eqb (kind d r) arrayForm) (eqb (kind d r) enumForm) _ _ _ (choose (leafForm (kind d r)) (λ _. childless d r) (λ _. true)) is children-ok f (λ y. g (eqb-true (kind d r) arrayForm y)) k
+      where
+        go : (a b c s u v w : Bool) → a || b || c ≡ true → choose a (λ _. s) (λ _. choose b (λ _. u) (λ _. choose c (λ _. v) (λ _. w))) ≡ true → (s ≡ true → A) → (b ≡ true → u ≡ true → A) → (v ≡ true → A) → A
+        go true b c s u v w i e f g k = f e
+        go false true c s u v w i e f g k = g refl e
+        go false false true s u v w i e f g k = k e
+        go false false false s u v w i e f g k = absurd (true≢false (sym i))
+
+  module _ (r : ℕ) where
+    set-members : setFine d r ≡ true → all (childCount d r) (member d (firstChild d r)) ≡ true
+    unfolding setFine
+    set-members e = and-right (blockFine d r) _ e
+
+    enum-members : enumFine d r ≡ true → all (childCount d r) (member d (firstChild d r)) ≡ true
+    unfolding enumFine
+    enum-members e = and-right (blockFine d r && leb 1 (childCount d r) && all (childCount d r) (stringChild d (firstChild d r))) _ e
+
+    set-block : setFine d r ≡ true → blockFine d r ≡ true
+    unfolding setFine
+    set-block e = and-left (blockFine d r) _ e
+
+    array-block : arrayFine d r ≡ true → blockFine d r ≡ true
+    unfolding arrayFine
+    array-block e = and-left (blockFine d r) _ (and-left (blockFine d r && eqb (childCount d r) 1) _ e)
+
+    enum-block : enumFine d r ≡ true → blockFine d r ≡ true
+    unfolding enumFine
+    enum-block e =
+        let c = all (childCount d r) (stringChild d (firstChild d r)) in
+        and-left (blockFine d r) _ (and-left (blockFine d r && leb 1 (childCount d r)) _ (and-left (blockFine d r && leb 1 (childCount d r) && c) _ e))
+
+    array-turns : arrayFine d r ≡ true → all (childCount d r) (inTurn d (firstChild d r)) ≡ true
+    unfolding arrayFine
+    array-turns e = and-right (blockFine d r && eqb (childCount d r) 1) _ e
+
+    member-turn : (p : ℕ) → member d (firstChild d r) p ≡ true → inTurn d (firstChild d r) p ≡ true
+    unfolding member
+    member-turn p e = and-left (inTurn d (firstChild d r) p) _ e
+
+    turn : (p : ℕ) → inTurn d (firstChild d r) p ≡ true → numberIn d (firstChild d r + p) ≡ p
+    unfolding inTurn
+    turn p e = eqb-true (numberIn d (firstChild d r + p)) p e
+
+    module _ (h : r < entries d) where
+      pub accepted-family : parent d r ≡ true → Family d r
+      accepted-family is =
+          by-format r h (Family d r) is
+          (λ e. made (set-block e) λ p l. turn p (member-turn p (all-at _ _ (set-members e) p l)))
+          (λ _ e. made (array-block e) λ p l. turn p (all-at _ _ (array-turns e) p l))
+          (λ e. made (enum-block e) λ p l. turn p (member-turn p (all-at _ _ (enum-members e) p l)))
+        where
+          made : blockFine d r ≡ true → ((p : ℕ) → p < childCount d r → numberIn d (firstChild d r + p) ≡ p) → Family d r
+          made b t = record { within = block-inside d r b; in-turn = t }
+
+      pub accepted-members : (kind d r ≡ arrayForm → ⊥) → parent d r ≡ true → Members d r
+      accepted-members no-array is =
+          by-format r h (Members d r) is (λ e. made (set-members e)) (λ k _. absurd (no-array k)) (λ e. made (enum-members e))
+        where
+          made : all (childCount d r) (member d (firstChild d r)) ≡ true → Members d r
+          made e =
+              record {
+                named = λ p l. member-named d (firstChild d r) p (all-at _ _ e p l);
+                differ = λ p q lt l. member-differs d (firstChild d r) p q lt (all-at _ _ e p l);
+              }
+
+-- children by number: in an accepted dictionary the number is the position
+module _ (d : List ℕ) (n first : ℕ) where
+  seek-turn : (k i : ℕ) → ((p : ℕ) → i ≤ p → p < i + k → numberIn d (first + p) ≡ p) → i ≤ n → n < i + k → seek k (first + i) (hasNumber d n) ≡ At (first + n)
+  seek-turn zero i t lo hi = absurd (omega arith)
+  seek-turn (suc k) i t lo hi =
+      go (eqb i n) refl (λ l. seek-turn k (i + 1) (λ p a b. t p (omega arith) (omega arith)) (omega arith) (omega arith))
+    where
+      own : numberIn d (first + i) ≡ i
+      own = t i (omega arith) (omega arith)
+
+      go : (b : Bool) → eqb i n ≡ b → (i < n → seek k (first + (i + 1)) (hasNumber d n) ≡ At (first + n)) → seek (suc k) (first + i) (hasNumber d n) ≡ At (first + n)
+      go true e rec =
+          let z = eqb-true i n e in
+          seek-here (hasNumber d n) (suc k) (first + i) (omega arith) (eq-eqb (numberIn d (first + i)) n (own ∙ z)) ∙ ap At (omega (arith, z))
+      go false e rec =
+          let x = eqb-false i n e in
+          let f : suc k - 1 ≡ k = omega arith in
+          let g : first + i + 1 ≡ first + (i + 1) = omega arith in
+          rw (f, g) at (seek-next (hasNumber d n) (suc k) (first + i) (omega arith) (ne-eqb (numberIn d (first + i)) n (λ y. x (sym own ∙ y))))
+          ∙ rec (omega (arith, x))
+
+  seek-past : (k i : ℕ) → ((p : ℕ) → i ≤ p → p < i + k → numberIn d (first + p) ≡ p) → i + k ≤ n → seek k (first + i) (hasNumber d n) ≡ Nothing
+  seek-past zero i t lo = seek-none (hasNumber d n) 0 (first + i) refl
+  seek-past (suc k) i t lo =
+      let f : suc k - 1 ≡ k = omega arith in
+      let g : first + i + 1 ≡ first + (i + 1) = omega arith in
+      let own = t i (omega arith) (omega arith) in
+      rw (f, g) at (seek-next (hasNumber d n) (suc k) (first + i) (omega arith) (ne-eqb (numberIn d (first + i)) n (λ y. let z = sym own ∙ y in omega (arith, z))))
+      ∙ seek-past k (i + 1) (λ p a b. t p (omega arith) (omega arith)) (omega arith)
+
+module _ (d : List ℕ) (r n : ℕ) (w : Family d r) where
+  pub number-known : n < childCount d r → childNumbered d r n ≡ At (firstChild d r + n)
+  unfolding childNumbered
+  number-known h =
+      rw (add-zero (firstChild d r)) at (seek-turn d n (firstChild d r) (childCount d r) 0 (λ p a b. w .in-turn p (omega arith)) (omega arith) (omega arith))
+
+  pub number-unknown : childCount d r ≤ n → childNumbered d r n ≡ Nothing
+  unfolding childNumbered
+  number-unknown h =
+      rw (add-zero (firstChild d r)) at (seek-past d n (firstChild d r) (childCount d r) 0 (λ p a b. w .in-turn p (omega arith)) (omega arith))
+
+  pub number-child : (c : ℕ) → childNumbered d r n ≡ At c → (c < entries d) × (numberIn d c ≡ n) × (c ≡ firstChild d r + n)
+  unfolding childNumbered
+  number-child c e =
+      let s = seek-found (hasNumber d n) (childCount d r) (firstChild d r) c e in
+      let m = eqb-true (numberIn d c) n (s .passes) in
+      let p = w .in-turn (c - firstChild d r) (omega (arith, s .from, s .under)) in
+      let q : firstChild d r + (c - firstChild d r) ≡ c = omega (arith, s .from) in
+      (omega (arith, s .under, w .within), m, omega (arith, rw q at p, m, s .from))
+
+-- children by name: the row that is found has the name, and its own number finds it again
+module _ (d : List ℕ) (r : ℕ) (t : List ℕ) (w : Family d r) where
+  pub named-child : (c : ℕ) → childNamed d r t ≡ At c → (c < entries d) × (name d c ≡ t) × (childNumbered d r (numberIn d c) ≡ At c)
+  unfolding childNamed
+  named-child c e =
+      let s = seek-found (hasName d t) (childCount d r) (firstChild d r) c e in
+      let q : firstChild d r + (c - firstChild d r) ≡ c = omega (arith, s .from) in
+      let p = w .in-turn (c - firstChild d r) (omega (arith, s .from, s .under)) in
+      let m : numberIn d c ≡ c - firstChild d r = rw q at p in
+      let k = number-known d r (numberIn d c) w (omega (arith, m, s .from, s .under)) in
+      (omega (arith, s .under, w .within), same-true _ _ (s .passes), k ∙ ap At (omega (arith, m, s .from)))
