@@ -2,37 +2,28 @@
 --   encode d     the 128 bytes of a desk
 --   decode bs    the desk that they spell; bytes of another length spell none
 -- "Multi-byte numbers are little-endian."
-use Prim.Native.Nat.{ℕ, zero, suc, _+_, _*_, _/_, _%_}
+use Prim.Native.Nat.{ℕ, zero, suc, _*_}
 use mathlib.Core.List.{List, [], _∷_, _++_}
 use mathlib.Core.Option.{Option, none, some}
 use lib.ListN.{length, take, drop}
 use lib.Dec.{eqb}
 use Rattle.terms.specs.Checks.{choose}
 use Rattle.terms.specs.Limits.{deskMost}
+use Rattle.numbers.specs.Bytes.{little, lowest}
 use Rattle.desk.specs.declared.Record.{Record}
 use Rattle.desk.specs.declared.Desk.{Desk}
 
 abbrev pub recordBytes : ℕ
 recordBytes = 16
 
--- a number in so many bytes, the lowest first
-unfoldable pub spell : ℕ → ℕ → List ℕ
-spell zero n = []
-spell (suc width) n = (n % 256) ∷ spell width (n / 256)
-
--- the number that bytes spell, the lowest first
-unfoldable pub little : List ℕ → ℕ
-little [] = 0
-little (b ∷ bs) = b + 256 * little bs
-
 unfoldable pub encodeRecord : Record → List ℕ
 encodeRecord r =
-    spell 2 (r .number)
-    ++ spell 1 (r .kind)
-    ++ spell 1 (r .state)
-    ++ spell 4 (r .declared)
-    ++ spell 4 (r .received)
-    ++ spell 4 (r .due)
+    lowest 2 (r .number)
+    ++ lowest 1 (r .kind)
+    ++ lowest 1 (r .state)
+    ++ lowest 4 (r .declared)
+    ++ lowest 4 (r .received)
+    ++ lowest 4 (r .due)
 
 unfoldable pub encodeRecords : List Record → List ℕ
 encodeRecords [] = []

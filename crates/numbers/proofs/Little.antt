@@ -15,7 +15,7 @@ use Rattle.terms.specs.Checks.{choose}
 use Rattle.numbers.specs.Bytes.{Bytes, byte, little}
 use Rattle.numbers.specs.Number.{fewest}
 use Rattle.numbers.specs.Integer.{clear, flip}
-use Rattle.numbers.specs.Met.{lowest}
+use Rattle.numbers.specs.Bytes.{lowest}
 
 unfoldable pub until : ℕ → ℕ → ℕ → List ℕ
 until b zero n = []

@@ -9,7 +9,8 @@ use Rattle.numbers.specs.declared.Integer.{Integer}
 use Rattle.numbers.specs.declared.Integer.the-variants.{Plus, Minus}
 use Rattle.numbers.specs.Number.{fewest, numberOf}
 use Rattle.numbers.specs.Integer.{flip, clear, briefOf, Held}
-use Rattle.numbers.specs.Met.{Wrote, lowest}
+use Rattle.numbers.specs.Bytes.{lowest}
+use Rattle.numbers.specs.Met.{Wrote}
 use Rattle.numbers.proofs.Little.{limit, until, fewest-until, clear-until, until-last, until-next, until-more, until-few, until-some, until-lowest, flip-lowest}
 use Rattle.numbers.proofs.Integers.{flip-long}
 use Rattle.numbers.proofs.Writing.{Writing, begun, onward, ended, room, joined, as-long, renamed}

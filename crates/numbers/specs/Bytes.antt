@@ -1,8 +1,9 @@
 -- Bytes and the numbers that they write.
 --   Bytes v       every element of v is below 256
 --   little v      the number that v writes, the least byte first ("Multi-byte numbers are little-endian")
---   short, long   the numbers of two and of four bytes at a place of s
-use Prim.Native.Nat.{ℕ, _+_, _*_, _<_}
+--   lowest k n    the k lowest bytes of n
+--   byte, short, long   the numbers of two and of four bytes at a place of s
+use Prim.Native.Nat.{ℕ, zero, suc, _+_, _*_, _/_, _%_, _<_}
 use mathlib.Core.List.{List, [], _∷_}
 use lib.ListN.{getD}
 
@@ -13,6 +14,11 @@ Bytes (x ∷ v) = (x < 256) × Bytes v
 unfoldable pub little : List ℕ → ℕ
 little [] = 0
 little (x ∷ v) = x + 256 * little v
+
+-- of n, the k lowest bytes, the least first: `little` undoes it
+unfoldable pub lowest : ℕ → ℕ → List ℕ
+lowest zero n = []
+lowest (suc k) n = n % 256 ∷ lowest k (n / 256)
 
 abbrev pub byte : List ℕ → ℕ → ℕ
 byte s p = getD s p 0

@@ -1,7 +1,6 @@
 -- What the functions' contracts say, beside an equation to a definition.
 --   Wrote d p t r d'    t is written from p on, and r is the place after it
 --   Widened             a byte as a wider number
---   lowest k n          the k lowest bytes of n, the least first
 --   turned m v          the bytes, complemented where m holds
 --   Summed              the number that bytes say
 --   NumberMet           what stands where a number is due, with its bounds
@@ -40,10 +39,6 @@ pub record Wrote (d : List ℕ) (p : ℕ) (t : List ℕ) (r : ℕ) (d' : List �
 pub record Widened (x r : ℕ) : Type 0 where
   pub same : r ≡ x
   pub small : r < 256
-
-unfoldable pub lowest : ℕ → ℕ → List ℕ
-lowest zero n = []
-lowest (suc k) n = n % 256 ∷ lowest k (n / 256)
 
 abbrev pub turned : Bool → List ℕ → List ℕ
 turned false v = v

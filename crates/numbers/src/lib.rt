@@ -1,14 +1,19 @@
 // Numbers and integers, between bytes and decimal text. What they mean stands in specs/.
+use terms::NUMBER_LEAST;
+use terms::NUMBER_MOST;
+use terms::PAST_END;
+use terms::WIDTH_WRONG;
 ghost use mathlib.Core.Path.{_≡_};
 ghost use mathlib.Core.List.{[], _∷_};
 ghost use mathlib.Core.Bool.{true};
 ghost use Prim.Native.Nat.{_+_, _^_, _≤_, _<_};
 ghost use lib.ListN.{length};
 ghost use lib.Seq.{slice};
+ghost use Rattle.numbers.specs.Bytes.{lowest};
 ghost use Rattle.numbers.specs.Number.{fewest, numberOf};
 ghost use Rattle.numbers.specs.Integer.{Held, clear, briefOf};
 ghost use Rattle.numbers.specs.Decimal.{decimal, decimalOf, digitsOnly, integral, valueFrom, integerSaid};
-ghost use Rattle.numbers.specs.Met.{Wrote, Widened, turnedByte, Summed, NumberMet, IntegerMet, lowest, plusSaid, minusSaid, next, capped, tooLarge};
+ghost use Rattle.numbers.specs.Met.{Wrote, Widened, turnedByte, Summed, NumberMet, IntegerMet, plusSaid, minusSaid, next, capped, tooLarge};
 
 // What stands where a number is due: a refusal's number, or the value and the width N.
 pub enum Found {
@@ -27,14 +32,6 @@ pub enum Said {
     Wrong,
     Is(Integer),
 }
-
-const PAST_END: u8 = 4;
-
-const WIDTH_WRONG: u8 = 5;
-
-const NUMBER_LEAST: usize = 1;
-
-const NUMBER_MOST: usize = 4;
 
 // 2 to the 63: the least number that no integer is, but with a sign
 const HALF: u64 = 9223372036854775808;

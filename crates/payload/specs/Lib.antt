@@ -1,4 +1,5 @@
 pub mod Tree
+pub mod Header
 pub mod Strings
 pub mod Writes
 pub mod Fits

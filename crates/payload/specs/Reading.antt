@@ -21,6 +21,7 @@ use Rattle.numbers.specs.Number.{numberAt}
 use Rattle.dictionary.specs.Formats.{setForm, arrayForm, realForm, booleanForm}
 use Rattle.dictionary.specs.Accepts.{accepts}
 use Rattle.payload.specs.Tree.{Scalar, Shape, aSet, anArray, Tuples, none, scalar, inner}
+use Rattle.payload.specs.Header.{headerFine}
 use Rattle.payload.specs.Fits.{known, child, fresh, fits}
 use Rattle.payload.specs.Text.{rootText, rootCount}
 use Rattle.payload.specs.Values.{Valued, wrong, worth, scalarValue}
@@ -57,11 +58,6 @@ isGroup f = ltb f 2
 abbrev pub shapeOf : ℕ → Shape
 shapeOf zero = aSet
 shapeOf (suc f) = anArray
-
--- the bytes of the header, but for the two flag bytes
-unfoldable pub headerFine : List ℕ → Bool
-headerFine s =
-    eqb (byte s 0) 0x00 && eqb (byte s 1) 0xF0 && eqb (byte s 2) 0xF0 && eqb (byte s 3) 0xF1 && eqb (byte s 6) 0x00
 
 module _ (d s : List ℕ) where
   -- V, of the format f at the row r, from p to q. `inside` reads the value of a set or array: row, start of its tuple, first byte and end of V, budget

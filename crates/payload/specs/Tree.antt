@@ -1,10 +1,11 @@
 -- What a payload says, as a tree. A run of tuples is one type, since a set or an array holds a run of its own.
 --   Scalar, Shape, Tuples    the tree; the root of a payload is the run of its members
 --   formatOf, shapeFormat    the format that each is written with
+--   booleanByte              the byte of a boolean
 --   size, count, depth       how many tuples a run has: itself, with all that they hold, and how deep they nest
 use Prim.Native.Nat.{ℕ, zero, suc, _+_, max}
 use mathlib.Core.List.{List}
-use mathlib.Core.Bool.{Bool}
+use mathlib.Core.Bool.{Bool, true, false}
 use Rattle.numbers.specs.declared.Integer.{Integer}
 use Rattle.dictionary.specs.Formats.{setForm, arrayForm, nullForm, integerForm, enumForm, stringForm, booleanForm}
 
@@ -36,6 +37,11 @@ formatOf (boolean b) = booleanForm
 abbrev pub shapeFormat : Shape → ℕ
 shapeFormat aSet = setForm
 shapeFormat anArray = arrayForm
+
+-- "Boolean: 00 or FF (house)."
+abbrev pub booleanByte : Bool → ℕ
+booleanByte false = 0x00
+booleanByte true = 0xFF
 
 unfoldable pub size : Tuples → ℕ
 size none = 0

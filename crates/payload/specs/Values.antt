@@ -14,7 +14,7 @@ use Rattle.numbers.specs.Number.{numberAt}
 use Rattle.numbers.specs.Integer.{integerOf}
 use Rattle.dictionary.specs.Formats.{nullForm, integerForm, enumForm, stringForm, booleanForm}
 use Rattle.dictionary.specs.Children.{childNumbered}
-use Rattle.payload.specs.Tree.{Scalar, null, integer, option, string, boolean}
+use Rattle.payload.specs.Tree.{Scalar, null, integer, option, string, boolean, booleanByte}
 use Rattle.payload.specs.Strings.{wellSpelt}
 use Rattle.payload.specs.Fits.{found}
 
@@ -30,9 +30,8 @@ integerValue v = when (leb integerLeast (length v) && leb (length v) integerMost
 
 unfoldable pub booleanValue : List ℕ → Valued
 booleanValue v =
-    choose (eqb (length v) 1)
-    (λ _. choose (eqb (byte v 0) 0) (λ _. worth (boolean false)) (λ _. when (eqb (byte v 0) 255) (λ _. boolean true)))
-    (λ _. wrong valueWrong)
+    choose (eqb (length v) 1 && eqb (byte v 0) (booleanByte false)) (λ _. worth (boolean false)) λ _.
+    when (eqb (length v) 1 && eqb (byte v 0) (booleanByte true)) (λ _. boolean true)
 
 unfoldable pub stringValue : List ℕ → Valued
 stringValue v =

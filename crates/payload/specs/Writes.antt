@@ -6,14 +6,15 @@
 use Prim.Native.Nat.{ℕ, _+_, _*_, _/_, _%_, _≤_, _<_}
 use mathlib.Core.Path.{_≡_}
 use mathlib.Core.List.{List, [], _∷_, _++_}
-use mathlib.Core.Bool.{Bool, true, false}
+use mathlib.Core.Bool.{Bool, true}
 use lib.ListN.{length}
 use Rattle.terms.specs.Limits.{integerLeast, integerMost}
 use Rattle.numbers.specs.declared.Integer.{Integer}
 use Rattle.numbers.specs.Bytes.{Bytes}
 use Rattle.numbers.specs.Number.{Number}
 use Rattle.numbers.specs.Integer.{integerOf}
-use Rattle.payload.specs.Tree.{Scalar, null, integer, option, string, boolean, Tuples, none, scalar, inner, aSet, formatOf, shapeFormat, size}
+use Rattle.payload.specs.Tree.{Scalar, null, integer, option, string, boolean, Tuples, none, scalar, inner, aSet, formatOf, shapeFormat, booleanByte, size}
+use Rattle.payload.specs.Header.{headerWith}
 use Rattle.payload.specs.Strings.{wellSpelt}
 
 -- bytes that P takes before bytes that Q takes
@@ -60,8 +61,7 @@ Holds null v = v ≡ []
 Holds (integer i) v = Whole i v
 Holds (option n) v = Number n v
 Holds (string t) v = Spelt t v
-Holds (boolean false) v = v ≡ 0 ∷ []
-Holds (boolean true) v = v ≡ 255 ∷ []
+Holds (boolean b) v = v ≡ booleanByte b ∷ []
 
 -- "Set and array: a number counting the tuples, then the tuples."
 unfoldable pub Writes : Tuples → List ℕ → Type 0
@@ -69,11 +69,11 @@ Writes none b = b ≡ []
 Writes (scalar n x rest) b = Cut (Tuple n (formatOf x) (Holds x)) (Writes rest) b
 Writes (inner n g kids rest) b = Cut (Tuple n (shapeFormat g) (Cut (Number (size kids)) (Writes kids))) (Writes rest) b
 
--- "Header: version bytes 00 F0 F0 F1, two flag bytes not read, schema class 0." "The root is a set, S is 0, row 0. Nothing follows it."
+-- "two flag bytes not read"; "The root is a set, S is 0, row 0. Nothing follows it."
 pub record Payload (t : Tuples) (b : List ℕ) : Type 0 where
   pub flag : ℕ
   pub flag′ : ℕ
   pub flags : Bytes (flag ∷ flag′ ∷ [])
   pub body : List ℕ
-  pub whole : b ≡ 0x00 ∷ 0xF0 ∷ 0xF0 ∷ 0xF1 ∷ flag ∷ flag′ ∷ 0x00 ∷ body
+  pub whole : b ≡ headerWith flag flag′ ++ body
   pub root : Tuple 0 (shapeFormat aSet) (Cut (Number (size t)) (Writes t)) body

@@ -4,11 +4,11 @@
 --   payloadOf t     the payload whose root has the members t
 use Prim.Native.Nat.{ℕ, _*_}
 use mathlib.Core.List.{List, [], _∷_, _++_}
-use mathlib.Core.Bool.{true, false}
 use lib.ListN.{length}
 use Rattle.numbers.specs.Number.{numberOf}
 use Rattle.numbers.specs.Integer.{briefOf}
-use Rattle.payload.specs.Tree.{Scalar, null, integer, option, string, boolean, aSet, Tuples, none, scalar, inner, formatOf, shapeFormat, size}
+use Rattle.payload.specs.Tree.{Scalar, null, integer, option, string, boolean, aSet, Tuples, none, scalar, inner, formatOf, shapeFormat, booleanByte, size}
+use Rattle.payload.specs.Header.{headerWith}
 
 abbrev pub formByte : ℕ → ℕ
 formByte f = 16 * f
@@ -22,8 +22,7 @@ valueBytes null = []
 valueBytes (integer i) = briefOf i
 valueBytes (option n) = numberOf n
 valueBytes (string t) = t ++ (0 ∷ [])
-valueBytes (boolean false) = 0 ∷ []
-valueBytes (boolean true) = 255 ∷ []
+valueBytes (boolean b) = booleanByte b ∷ []
 
 unfoldable pub shortest : Tuples → List ℕ
 shortest none = []
@@ -31,5 +30,4 @@ shortest (scalar n x rest) = tupleOf n (formatOf x) (valueBytes x) ++ shortest r
 shortest (inner n g kids rest) = tupleOf n (shapeFormat g) (numberOf (size kids) ++ shortest kids) ++ shortest rest
 
 unfoldable pub payloadOf : Tuples → List ℕ
-payloadOf t =
-    0x00 ∷ 0xF0 ∷ 0xF0 ∷ 0xF1 ∷ 0 ∷ 0 ∷ 0x00 ∷ tupleOf 0 (shapeFormat aSet) (numberOf (size t) ++ shortest t)
+payloadOf t = headerWith 0 0 ++ tupleOf 0 (shapeFormat aSet) (numberOf (size t) ++ shortest t)
