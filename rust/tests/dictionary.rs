@@ -49,15 +49,15 @@ fn resized(bytes: &[u8], length: usize) -> Vec<u8> {
 
 #[test]
 fn figure_6_is_accepted() {
-    assert!(judged(&figure::DICTIONARY, || "Figure 6".to_string()));
+    assert!(judged(&figure::bytes(), || "Figure 6".to_string()));
 }
 
 #[test]
 fn figure_6_with_each_byte_changed() {
     let mut tally = Tally::default();
-    for at in 0..figure::DICTIONARY.len() {
+    for at in 0..figure::bytes().len() {
         for change in 1..=255 {
-            let mut bytes = figure::DICTIONARY;
+            let mut bytes = figure::bytes();
             bytes[at] ^= change;
             tally.judge(&bytes, || format!("byte {at} is {:02x}", bytes[at]));
         }
@@ -120,7 +120,7 @@ const CASES: [Case; 33] = [
 #[test]
 fn figure_6_with_fields_that_the_paper_answers() {
     for Case { says, at, bytes, accepted } in CASES {
-        let mut dictionary = figure::DICTIONARY;
+        let mut dictionary = figure::bytes();
         dictionary[at..at + bytes.len()].copy_from_slice(bytes);
         assert_eq!(judged(&dictionary, || says.to_string()), accepted, "{says}");
     }
@@ -148,7 +148,7 @@ fn each_short_length() {
     let nameless = *b"\0\0\x01\0\0\xF0\xF0\xF1\0\0\0\0";
     for length in 0..=30 {
         assert!(!judged(&vec![0; length], || format!("{length} times 00")));
-        assert!(!judged(&figure::DICTIONARY[..length], || format!("{length} of Figure 6")));
+        assert!(!judged(&figure::bytes()[..length], || format!("{length} of Figure 6")));
         if length >= HEADER {
             let accepted = judged(&resized(&named, length), || format!("a set, {length} bytes"));
             assert_eq!(accepted, length >= 24);
@@ -171,9 +171,9 @@ fn lengths_about_the_most() {
 #[test]
 fn sizes_and_counts_of_more_bits() {
     for round in 1..=3 {
-        let size = figure::DICTIONARY.len() + (round << 16);
-        assert!(!judged(&with_size(&figure::DICTIONARY, size), || format!("size {size}")));
-        assert!(!judged(&resized(&figure::DICTIONARY, size), || format!("{size} bytes")));
+        let size = figure::bytes().len() + (round << 16);
+        assert!(!judged(&with_size(&figure::bytes(), size), || format!("size {size}")));
+        assert!(!judged(&resized(&figure::bytes(), size), || format!("{size} bytes")));
     }
     for count in [6_552_u16, 6_553, 6_554, u16::MAX] {
         let mut bytes = resized(&[0; HEADER], MOST);
@@ -216,7 +216,7 @@ fn damaged_ones() {
         }
     }
     for round in 0..60_000 {
-        let bytes = damage::damaged(&figure::DICTIONARY, &mut random);
+        let bytes = damage::damaged(&figure::bytes(), &mut random);
         tally.judge(&bytes, || format!("Figure 6, round {round}: {bytes:02x?}"));
     }
     tally.both_answers_are_frequent("damaged ones");

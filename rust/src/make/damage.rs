@@ -116,7 +116,7 @@ mod tests {
     #[test]
     fn some_accepted_and_most_not() {
         let mut random = Random::new(7);
-        let dictionaries = (0..1_000).map(|_| damaged(&figure::DICTIONARY, &mut random));
+        let dictionaries = (0..1_000).map(|_| damaged(&figure::bytes(), &mut random));
         let accepted = dictionaries.filter(|bytes| accepts(bytes)).count();
         assert!((100..600).contains(&accepted), "{accepted} of 1000");
     }
