@@ -1,4 +1,10 @@
 // The checker: exactly document 01's rules, for any bytes.
+use crate::formats::ARRAY;
+use crate::formats::BOOLEAN;
+use crate::formats::ENUM;
+use crate::formats::INTEGER;
+use crate::formats::SET;
+use crate::formats::STRING;
 use crate::names::name_fine;
 use crate::names::same_bytes;
 use crate::rows::child_count;
@@ -12,6 +18,10 @@ use crate::rows::sequence_number;
 use crate::rows::truncated_bit;
 use crate::rows::version_tag;
 use crate::rows::whole_size;
+use crate::rows::HEADER_BYTES;
+use crate::rows::ROW_BYTES;
+use terms::DICTIONARY_LEAST;
+use terms::DICTIONARY_MOST;
 ghost use mathlib.Core.Path.{_≡_};
 ghost use mathlib.Core.Bool.{true};
 ghost use Prim.Native.Nat.{ℕ, _+_, _-_, _*_, _≤_, _<_};
@@ -22,14 +32,17 @@ ghost use Rattle.dictionary.specs.Rows.{rowAt, rowBytes, firstChild, chi
 ghost use Rattle.dictionary.specs.Accepts.{headerFine, childless, blockFine, inTurn, unlike, member, stringChild, setFine, arrayFine, enumFine, leafForm, childrenFine, nameFine, accepts};
 ghost use Rattle.dictionary.specs.Met.{Rowed, Named, Marks, Marked};
 
+// The most rows that a dictionary of the most bytes has room for.
+const ROWS_MOST: usize = (DICTIONARY_MOST - HEADER_BYTES) / ROW_BYTES;
+
 fn header_fine(d: &[u8]) -> bool
     ensures { λ r. ⌜ r ≡ headerFine (now (d .entry)) ⌝ }
 {
     let size = d.len();
-    if size < terms::DICTIONARY_LEAST {
+    if size < DICTIONARY_LEAST {
         return false;
     }
-    if size > terms::DICTIONARY_MOST {
+    if size > DICTIONARY_MOST {
         return false;
     }
     if version_tag(d) != 0 {
@@ -45,10 +58,10 @@ fn header_fine(d: &[u8]) -> bool
     if n < 1 {
         return false;
     }
-    if 12 + 10 * n > size {
+    if HEADER_BYTES + ROW_BYTES * n > size {
         return false;
     }
-    format_nibble(d, 0) == 0
+    format_nibble(d, 0) == SET
 }
 
 fn names_fine(d: &[u8], n: usize) -> bool
@@ -84,10 +97,10 @@ fn block_fine(d: &[u8], n: usize, row: usize) -> bool
         return true;
     }
     let offset = child_offset(d, row);
-    if offset < 12 {
+    if offset < HEADER_BYTES {
         return false;
     }
-    if (offset - 12) % 10 != 0 {
+    if (offset - HEADER_BYTES) % ROW_BYTES != 0 {
         return false;
     }
     first_child(d, row) + child_count(d, row) <= n
@@ -101,7 +114,7 @@ fn only_strings(d: &[u8], n: usize, first: usize, count: usize) -> bool
 {
     let mut p: usize = 0;
     while p < count {
-        if format_nibble(d, first + p) != 5 {
+        if format_nibble(d, first + p) != STRING {
             return false;
         }
         p += 1;
@@ -143,7 +156,7 @@ fn unlike_elders(d: &[u8], n: usize, first: usize, p: usize) -> bool
 }
 
 // How many children from the first on another parent has had settled: where a marked one has its number, so have all its elders.
-fn settled_front(d: &[u8], n: usize, first: usize, count: usize, marks: &[u8; 6552]) -> usize
+fn settled_front(d: &[u8], n: usize, first: usize, count: usize, marks: &[u8; ROWS_MOST]) -> usize
     requires { ⌜ Rowed (now d) n ⌝ }
     requires { ⌜ Marks (now d) (now marks) ⌝ }
     requires { ⌜ first + count ≤ n ⌝ }
@@ -163,7 +176,7 @@ fn settled_front(d: &[u8], n: usize, first: usize, count: usize, marks: &[u8; 65
 }
 
 // The child at position p, whose elder siblings are settled.
-fn settle(d: &[u8], n: usize, first: usize, p: usize, marks: &mut [u8; 6552]) -> bool
+fn settle(d: &[u8], n: usize, first: usize, p: usize, marks: &mut [u8; ROWS_MOST]) -> bool
     requires { ⌜ Named (now d) n ⌝ }
     requires { ⌜ Marks (now d) (now marks) ⌝ }
     requires { ⌜ (first + p < n) × (all p (member (now d) first) ≡ true) ⌝ }
@@ -181,7 +194,7 @@ fn settle(d: &[u8], n: usize, first: usize, p: usize, marks: &mut [u8; 6552]) ->
 }
 
 // The children of a set or enum.
-fn members_fine(d: &[u8], n: usize, first: usize, count: usize, marks: &mut [u8; 6552]) -> bool
+fn members_fine(d: &[u8], n: usize, first: usize, count: usize, marks: &mut [u8; ROWS_MOST]) -> bool
     requires { ⌜ Named (now d) n ⌝ }
     requires { ⌜ Marks (now d) (now marks) ⌝ }
     requires { ⌜ first + count ≤ n ⌝ }
@@ -197,7 +210,7 @@ fn members_fine(d: &[u8], n: usize, first: usize, count: usize, marks: &mut [u8;
     true
 }
 
-fn set_fine(d: &[u8], n: usize, row: usize, marks: &mut [u8; 6552]) -> bool
+fn set_fine(d: &[u8], n: usize, row: usize, marks: &mut [u8; ROWS_MOST]) -> bool
     requires { ⌜ Named (now d) n ⌝ }
     requires { ⌜ Marks (now d) (now marks) ⌝ }
     requires { ⌜ row < n ⌝ }
@@ -223,7 +236,7 @@ fn array_fine(d: &[u8], n: usize, row: usize) -> bool
     sequence_number(d, first_child(d, row)) == 0
 }
 
-fn enum_fine(d: &[u8], n: usize, row: usize, marks: &mut [u8; 6552]) -> bool
+fn enum_fine(d: &[u8], n: usize, row: usize, marks: &mut [u8; ROWS_MOST]) -> bool
     requires { ⌜ Named (now d) n ⌝ }
     requires { ⌜ Marks (now d) (now marks) ⌝ }
     requires { ⌜ row < n ⌝ }
@@ -247,29 +260,29 @@ fn enum_fine(d: &[u8], n: usize, row: usize, marks: &mut [u8; 6552]) -> bool
 fn leaf(format: usize) -> bool
     ensures { λ r. ⌜ r ≡ leafForm format ⌝ }
 {
-    if format == 3 {
+    if format == INTEGER {
         return true;
     }
-    if format == 5 {
+    if format == STRING {
         return true;
     }
-    format == 7
+    format == BOOLEAN
 }
 
-fn children_fine(d: &[u8], n: usize, row: usize, marks: &mut [u8; 6552]) -> bool
+fn children_fine(d: &[u8], n: usize, row: usize, marks: &mut [u8; ROWS_MOST]) -> bool
     requires { ⌜ Named (now d) n ⌝ }
     requires { ⌜ Marks (now d) (now marks) ⌝ }
     requires { ⌜ row < n ⌝ }
     ensures { λ r. ⌜ Marked (now (d .entry)) (childrenFine (now (d .entry)) row) r (now (marks .exit)) ⌝ }
 {
     let format = format_nibble(d, row);
-    if format == 0 {
+    if format == SET {
         return set_fine(d, n, row, marks);
     }
-    if format == 1 {
+    if format == ARRAY {
         return array_fine(d, n, row);
     }
-    if format == 4 {
+    if format == ENUM {
         return enum_fine(d, n, row, marks);
     }
     if leaf(format) {
@@ -282,7 +295,7 @@ fn families_fine(d: &[u8], n: usize) -> bool
     requires { ⌜ Named (now d) n ⌝ }
     ensures { λ r. ⌜ r ≡ all n (childrenFine (now (d .entry))) ⌝ }
 {
-    let mut marks = [0u8; 6552];
+    let mut marks = [0u8; ROWS_MOST];
     let mut row: usize = 0;
     while row < n {
         if !children_fine(d, n, row, &mut marks) {

@@ -1,6 +1,8 @@
 // Names: their rule, and when two are the same.
 use crate::rows::name_length;
 use crate::rows::name_offset;
+use crate::rows::HEADER_BYTES;
+use crate::rows::ROW_BYTES;
 ghost use mathlib.Core.Path.{_≡_};
 ghost use mathlib.Core.Bool.{true};
 ghost use Prim.Native.Nat.{ℕ, _+_, _-_, _*_, _≤_, _<_};
@@ -55,7 +57,7 @@ pub fn name_fine(d: &[u8], n: usize, row: usize) -> bool
     if long < 2 {
         return false;
     }
-    if at < 12 + 10 * n {
+    if at < HEADER_BYTES + ROW_BYTES * n {
         return false;
     }
     if at + long > d.len() {

@@ -7,8 +7,8 @@ ghost use Rattle.numbers.specs.Bytes.{short, long};
 ghost use Rattle.dictionary.specs.Rows.{rowAt, rowBytes, headerBytes, tag, truncated, entries, wholeSize, form, kind, nullable, numberIn, childOffset, childCount, firstChild, nameLength, nameOffset};
 ghost use Rattle.dictionary.specs.Met.{Field};
 
-const HEADER_BYTES: usize = 12;
-const ROW_BYTES: usize = 10;
+pub const HEADER_BYTES: usize = 12;
+pub const ROW_BYTES: usize = 10;
 
 fn short_at(d: &[u8], at: usize) -> usize
     requires { ⌜ at + 2 ≤ length (now d) ⌝ }

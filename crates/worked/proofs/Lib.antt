@@ -1,0 +1,2 @@
+pub mod Figure6
+pub mod Cases

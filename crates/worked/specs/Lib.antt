@@ -1,0 +1,3 @@
+pub mod Spelling
+pub mod Figure6
+pub mod Cases
