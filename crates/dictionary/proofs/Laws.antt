@@ -15,7 +15,7 @@ use Rattle.terms.specs.Checks.{choose}
 use Rattle.terms.proofs.Tests.{and-left, and-right, so-not, all-at, all-of, all-both, same-eq, same-true}
 use Rattle.dictionary.specs.declared.Child.{Child}
 use Rattle.dictionary.specs.declared.Child.the-variants.{At, Nothing}
-use Rattle.dictionary.specs.Formats.{setForm, arrayForm, enumForm}
+use Rattle.dictionary.specs.Formats.{setForm, arrayForm, enumForm, stringForm}
 use Rattle.dictionary.specs.Rows.{entries, entriesEnd, kind, numberIn, firstChild, childCount, nameLength, nameOffset, name}
 use Rattle.dictionary.specs.Accepts.{headerFine, blockFine, inTurn, unlike, differs, member, stringChild, setFine, arrayFine, enumFine, leafForm, childless, childrenFine, nameByte, nameByteAt, nameFine, rowFine, accepts}
 use Rattle.dictionary.specs.Children.{seek, hasNumber, hasName, childNumbered, childNamed}
@@ -42,6 +42,18 @@ member-differs d first p q l e f =
     so-not _
     (not-true _ (all-at (differs d first p) p (and-right (not (eqb (nameLength d (first + p)) 0)) _ (member-unlike d first p e)) q l))
     (same-eq _ _ f)
+
+array-parent : (d : List ℕ) (r : ℕ) → kind d r ≡ arrayForm → parent d r ≡ true
+unfolding parent
+array-parent d r e = rw e
+
+enum-parent : (d : List ℕ) (r : ℕ) → kind d r ≡ enumForm → parent d r ≡ true
+unfolding parent
+enum-parent d r e = rw e
+
+string-child : (d : List ℕ) (first p : ℕ) → stringChild d first p ≡ true → kind d (first + p) ≡ stringForm
+unfolding stringChild
+string-child d first p e = eqb-true (kind d (first + p)) stringForm e
 
 -- the parts of an accepted dictionary
 module _ (d : List ℕ) (ok : accepts d ≡ true) where
@@ -90,15 +102,15 @@ module _ (d : List ℕ) (ok : accepts d ≡ true) where
     children-ok = and-right (nameFine d r) (childrenFine d r) (all-at (rowFine d) (entries d) rows-ok r h)
 
     -- whichever of the three formats the row has, what each of them gives
-    pub by-format : (A : Type 0) → parent d r ≡ true → (setFine d r ≡ true → A) → (kind d r ≡ arrayForm → arrayFine d r ≡ true → A) → (enumFine d r ≡ true → A) → A
+    pub by-format : (A : Type 0) → parent d r ≡ true → (kind d r ≡ setForm → setFine d r ≡ true → A) → (kind d r ≡ arrayForm → arrayFine d r ≡ true → A) → (kind d r ≡ enumForm → enumFine d r ≡ true → A) → A
     unfolding childrenFine parent
     by-format A is f g k =
-        go (eqb (kind d r) setForm) (eqb (kind d r) arrayForm) (eqb (kind d r) enumForm) _ _ _ (choose (leafForm (kind d r)) (λ _. childless d r) (λ _. true)) is children-ok f (λ y. g (eqb-true (kind d r) arrayForm y)) k
+        go (eqb (kind d r) setForm) (eqb (kind d r) arrayForm) (eqb (kind d r) enumForm) _ _ _ (choose (leafForm (kind d r)) (λ _. childless d r) (λ _. true)) is children-ok (λ y. f (eqb-true (kind d r) setForm y)) (λ y. g (eqb-true (kind d r) arrayForm y)) (λ y. k (eqb-true (kind d r) enumForm y))
       where
-        go : (a b c s u v w : Bool) → a || b || c ≡ true → choose a (λ _. s) (λ _. choose b (λ _. u) (λ _. choose c (λ _. v) (λ _. w))) ≡ true → (s ≡ true → A) → (b ≡ true → u ≡ true → A) → (v ≡ true → A) → A
-        go true b c s u v w i e f g k = f e
+        go : (a b c s u v w : Bool) → a || b || c ≡ true → choose a (λ _. s) (λ _. choose b (λ _. u) (λ _. choose c (λ _. v) (λ _. w))) ≡ true → (a ≡ true → s ≡ true → A) → (b ≡ true → u ≡ true → A) → (c ≡ true → v ≡ true → A) → A
+        go true b c s u v w i e f g k = f refl e
         go false true c s u v w i e f g k = g refl e
-        go false false true s u v w i e f g k = k e
+        go false false true s u v w i e f g k = k refl e
         go false false false s u v w i e f g k = absurd (true≢false (sym i))
 
   module _ (r : ℕ) where
@@ -128,6 +140,22 @@ module _ (d : List ℕ) (ok : accepts d ≡ true) where
     unfolding arrayFine
     array-turns e = and-right (blockFine d r && eqb (childCount d r) 1) _ e
 
+    array-one : arrayFine d r ≡ true → childCount d r ≡ 1
+    unfolding arrayFine
+    array-one e = eqb-true (childCount d r) 1 (and-right (blockFine d r) _ (and-left (blockFine d r && eqb (childCount d r) 1) _ e))
+
+    enum-some : enumFine d r ≡ true → 1 ≤ childCount d r
+    unfolding enumFine
+    enum-some e =
+        let c = all (childCount d r) (stringChild d (firstChild d r)) in
+        leb-true _ _ (and-right (blockFine d r) _ (and-left (blockFine d r && leb 1 (childCount d r)) _ (and-left (blockFine d r && leb 1 (childCount d r) && c) _ e)))
+
+    enum-strings : enumFine d r ≡ true → all (childCount d r) (stringChild d (firstChild d r)) ≡ true
+    unfolding enumFine
+    enum-strings e =
+        let c = all (childCount d r) (stringChild d (firstChild d r)) in
+        and-right (blockFine d r && leb 1 (childCount d r)) c (and-left (blockFine d r && leb 1 (childCount d r) && c) _ e)
+
     member-turn : (p : ℕ) → member d (firstChild d r) p ≡ true → inTurn d (firstChild d r) p ≡ true
     unfolding member
     member-turn p e = and-left (inTurn d (firstChild d r) p) _ e
@@ -140,16 +168,16 @@ module _ (d : List ℕ) (ok : accepts d ≡ true) where
       pub accepted-family : parent d r ≡ true → Family d r
       accepted-family is =
           by-format r h (Family d r) is
-          (λ e. made (set-block e) λ p l. turn p (member-turn p (all-at _ _ (set-members e) p l)))
+          (λ _ e. made (set-block e) λ p l. turn p (member-turn p (all-at _ _ (set-members e) p l)))
           (λ _ e. made (array-block e) λ p l. turn p (all-at _ _ (array-turns e) p l))
-          (λ e. made (enum-block e) λ p l. turn p (member-turn p (all-at _ _ (enum-members e) p l)))
+          (λ _ e. made (enum-block e) λ p l. turn p (member-turn p (all-at _ _ (enum-members e) p l)))
         where
           made : blockFine d r ≡ true → ((p : ℕ) → p < childCount d r → numberIn d (firstChild d r + p) ≡ p) → Family d r
           made b t = record { within = block-inside d r b; in-turn = t }
 
       pub accepted-members : (kind d r ≡ arrayForm → ⊥) → parent d r ≡ true → Members d r
       accepted-members no-array is =
-          by-format r h (Members d r) is (λ e. made (set-members e)) (λ k _. absurd (no-array k)) (λ e. made (enum-members e))
+          by-format r h (Members d r) is (λ _ e. made (set-members e)) (λ k _. absurd (no-array k)) (λ _ e. made (enum-members e))
         where
           made : all (childCount d r) (member d (firstChild d r)) ≡ true → Members d r
           made e =
@@ -157,6 +185,18 @@ module _ (d : List ℕ) (ok : accepts d ≡ true) where
                 named = λ p l. member-named d (firstChild d r) p (all-at _ _ e p l);
                 differ = λ p q lt l. member-differs d (firstChild d r) p q lt (all-at _ _ e p l);
               }
+
+      pub accepted-array : kind d r ≡ arrayForm → childCount d r ≡ 1
+      accepted-array k =
+          by-format r h (childCount d r ≡ 1) (array-parent d r k) (λ f _. absurd (let z = sym k ∙ f in omega (arith, z))) (λ _ e. array-one e)
+          (λ f _. absurd (let z = sym k ∙ f in omega (arith, z)))
+
+      pub accepted-enum : kind d r ≡ enumForm → (1 ≤ childCount d r) × ((p : ℕ) → p < childCount d r → kind d (firstChild d r + p) ≡ stringForm)
+      accepted-enum k =
+          by-format r h ((1 ≤ childCount d r) × ((p : ℕ) → p < childCount d r → kind d (firstChild d r + p) ≡ stringForm)) (enum-parent d r k)
+          (λ f _. absurd (let z = sym k ∙ f in omega (arith, z)))
+          (λ f _. absurd (let z = sym k ∙ f in omega (arith, z)))
+          (λ _ e. (enum-some e, λ p l. string-child d (firstChild d r) p (all-at _ _ (enum-strings e) p l)))
 
 -- children by number: in an accepted dictionary the number is the position
 module _ (d : List ℕ) (n first : ℕ) where

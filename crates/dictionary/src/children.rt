@@ -1,10 +1,10 @@
 // What the crates above ask of a row in an accepted dictionary: its name, and its children by number and by name.
+use crate::Child;
 use crate::names::same_bytes;
 use crate::rows::child_count;
 use crate::rows::first_child;
 use crate::rows::name_length;
 use crate::rows::name_offset;
-use crate::Child;
 ghost use mathlib.Core.Path.{_≡_};
 ghost use mathlib.Core.Bool.{true};
 ghost use Prim.Native.Nat.{ℕ, _+_, _-_, _*_, _≤_, _<_};

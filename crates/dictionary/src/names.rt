@@ -1,8 +1,8 @@
 // Names: their rule, and when two are the same.
-use crate::rows::name_length;
-use crate::rows::name_offset;
 use crate::rows::HEADER_BYTES;
 use crate::rows::ROW_BYTES;
+use crate::rows::name_length;
+use crate::rows::name_offset;
 ghost use mathlib.Core.Path.{_≡_};
 ghost use mathlib.Core.Bool.{true};
 ghost use Prim.Native.Nat.{ℕ, _+_, _-_, _*_, _≤_, _<_};

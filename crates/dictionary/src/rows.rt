@@ -8,6 +8,7 @@ ghost use Rattle.dictionary.specs.Rows.{rowAt, rowBytes, headerBytes, ta
 ghost use Rattle.dictionary.specs.Met.{Field};
 
 pub const HEADER_BYTES: usize = 12;
+
 pub const ROW_BYTES: usize = 10;
 
 fn short_at(d: &[u8], at: usize) -> usize
