@@ -1,7 +1,7 @@
 -- The whole check, and what acceptance gives.
 -- Assumes nothing.
-use Prim.Native.Nat.{ℕ, _+_, _-_, _*_, _≤_, _<_}
-use mathlib.Core.Path.{_≡_, refl, sym, ap, _∙_}
+use Prim.Native.Nat.{ℕ, _≤_}
+use mathlib.Core.Path.{_≡_, refl, sym, _∙_}
 use mathlib.Core.List.{List}
 use mathlib.Core.Bool.{Bool, true, false, not, _&&_}
 use native.Mathlib.Omega.{arith}
@@ -9,9 +9,8 @@ use lib.ListN.{length}
 use lib.Dec.{leb, eqb}
 use borrow.Author.Tests.{leb-true, eqb-true, not-true, not-false}
 use Rattle.terms.specs.Tests.{all}
-use Rattle.terms.specs.Checks.{choose}
-use Rattle.terms.proofs.Tests.{and-left, and-right, and-not-left, all-both, all-at}
-use Rattle.dictionary.specs.Rows.{tag, truncated, entries, entriesEnd, wholeSize, kind}
+use Rattle.terms.proofs.Tests.{and-left, and-right, all-both}
+use Rattle.dictionary.specs.Rows.{entries, entriesEnd, wholeSize, kind}
 use Rattle.dictionary.specs.Accepts.{headerFine, nameFine, childrenFine, rowFine, accepts}
 use Rattle.dictionary.specs.Given.{Headed}
 use Rattle.dictionary.specs.Met.{Field, Rowed, Named}

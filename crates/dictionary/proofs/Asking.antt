@@ -7,11 +7,10 @@ use mathlib.Core.Bool.{Bool, true, false}
 use native.Mathlib.Omega.{arith}
 use native.Mathlib.Nat.{add-zero, zero-add}
 use lib.ListN.{length, take, drop}
-use lib.Seq.{slice, slice-empty, take-length}
+use lib.Seq.{slice, take-length}
 use Rattle.terms.specs.Tests.{same}
 use Rattle.terms.proofs.Tests.{same-ne}
 use Rattle.numbers.proofs.Places.{slice-take}
-use Rattle.dictionary.specs.declared.Child.{Child}
 use Rattle.dictionary.specs.declared.Child.the-variants.{At, Nothing}
 use Rattle.dictionary.specs.Rows.{entries, firstChild, childCount, nameLength, nameOffset, name}
 use Rattle.dictionary.specs.Accepts.{accepts}

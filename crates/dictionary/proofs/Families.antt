@@ -1,20 +1,19 @@
 -- A row's children by its format, all rows, and the whole: the returns of the checker's upper functions.
 -- Assumes nothing.
-use Prim.Native.Nat.{ℕ, _+_, _-_, _*_, _≤_, _<_}
-use mathlib.Core.Path.{_≡_, refl, sym, ap, _∙_}
+use Prim.Native.Nat.{ℕ, _+_, _*_, _≤_, _<_}
+use mathlib.Core.Path.{_≡_, refl, sym, _∙_}
 use mathlib.Core.List.{List}
-use mathlib.Core.Bool.{Bool, true, false, not, _&&_}
+use mathlib.Core.Bool.{Bool, true, false, not}
 use native.Mathlib.Omega.{arith}
 use native.Mathlib.Nat.{add-zero}
 use lib.ListN.{length, getD, replicate, length-replicate, getD-replicate, List·getD-eq-default}
 use lib.Dec.{leb, eqb}
-use borrow.Author.Tests.{eq-eqb, ne-eqb, le-leb, lt-leb, leb-true, leb-false, eqb-true, not-true, not-false}
+use borrow.Author.Tests.{ne-eqb, le-leb, lt-leb, leb-true, leb-false, not-true, not-false}
 use Rattle.terms.specs.Tests.{all, Passing}
-use Rattle.terms.specs.Checks.{choose}
-use Rattle.terms.proofs.Tests.{and-left, and-right, and-both, and-not-left, and-not-right, all-both, pass-start, pass-stop, pass-more, pass-done}
-use Rattle.dictionary.specs.Rows.{entries, entriesEnd, kind, numberIn, firstChild, childCount}
-use Rattle.dictionary.specs.Accepts.{headerFine, blockFine, inTurn, member, stringChild, setFine, arrayFine, enumFine, leafForm, childless, childrenFine, nameFine, rowFine, accepts}
-use Rattle.dictionary.specs.Met.{Field, Rowed, Named, Marks, Marked}
+use Rattle.terms.proofs.Tests.{pass-start, pass-stop, pass-more, pass-done}
+use Rattle.dictionary.specs.Rows.{kind, numberIn, firstChild, childCount}
+use Rattle.dictionary.specs.Accepts.{blockFine, inTurn, member, stringChild, setFine, arrayFine, enumFine, leafForm, childless, childrenFine}
+use Rattle.dictionary.specs.Met.{Field, Rowed, Marks, Marked}
 use Rattle.dictionary.proofs.Headers.{block-inside}
 
 -- a block that is fine lies among the rows

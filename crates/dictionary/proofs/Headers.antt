@@ -1,18 +1,16 @@
 -- The checks that have no loop, one lemma for each return: a byte of a name, a leaf's format, no children, a block, the header, a name.
 -- Assumes nothing.
-use Prim.Native.Nat.{ℕ, _+_, _-_, _*_, _/_, _%_, _≤_, _<_}
-use mathlib.Core.Path.{_≡_, refl, sym, ap, _∙_}
+use Prim.Native.Nat.{ℕ, _+_, _-_, _*_, _%_, _≤_, _<_}
+use mathlib.Core.Path.{_≡_, refl, sym, _∙_}
 use mathlib.Core.List.{List}
 use mathlib.Core.Bool.{Bool, true, false, not, _&&_, _||_}
 use native.Mathlib.Omega.{arith}
-use lib.ListN.{length, getD}
-use lib.Dec.{ltb, leb, eqb}
-use borrow.Author.Tests.{le-leb, lt-leb, eq-eqb, ne-eqb, leb-true, eqb-true, not-true, not-false}
-use Rattle.terms.specs.Tests.{all}
-use Rattle.terms.proofs.Tests.{and-not-left, and-not-right, and-left, and-right}
-use Rattle.numbers.specs.Bytes.{short, long}
-use Rattle.dictionary.specs.Rows.{rowAt, tag, truncated, entries, wholeSize, entriesEnd, kind, childOffset, childCount, firstChild, nameLength, nameOffset}
-use Rattle.dictionary.specs.Accepts.{headerFine, childless, blockFine, leafForm, nameByte, nameByteAt, nameFine}
+use lib.ListN.{length}
+use lib.Dec.{leb, eqb}
+use borrow.Author.Tests.{le-leb, lt-leb, eq-eqb, ne-eqb, leb-true, eqb-true}
+use Rattle.terms.proofs.Tests.{and-not-left, and-not-right, and-right}
+use Rattle.dictionary.specs.Rows.{tag, truncated, entries, wholeSize, entriesEnd, kind, childOffset, childCount, firstChild}
+use Rattle.dictionary.specs.Accepts.{headerFine, childless, blockFine, leafForm, nameByte}
 use Rattle.dictionary.specs.Met.{Field, Rowed}
 
 -- a byte of a name

@@ -1,23 +1,20 @@
 -- What acceptance gives, for the crates above: the header, every row's name, and the children of a set, array or enum.
 -- Assumes nothing.
-use Prim.Native.Nat.{ℕ, zero, suc, _+_, _-_, _*_, _≤_, _<_}
+use Prim.Native.Nat.{ℕ, zero, suc, _+_, _-_, _≤_, _<_}
 use mathlib.Core.Path.{_≡_, refl, sym, ap, _∙_}
 use mathlib.Core.List.{List}
 use mathlib.Core.Bool.{Bool, true, false, not, _&&_, _||_, true≢false}
 use native.Mathlib.Omega.{arith}
-use native.Mathlib.Nat.{add-zero, add-suc, suc-add}
-use lib.ListN.{length, getD}
-use lib.Seq.{slice}
-use lib.Dec.{leb, ltb, eqb}
-use borrow.Author.Tests.{leb-true, eqb-true, eqb-false, eq-eqb, ne-eqb, not-true, not-false}
-use Rattle.terms.specs.Tests.{all, same}
+use native.Mathlib.Nat.{add-zero}
+use lib.Dec.{leb, eqb}
+use borrow.Author.Tests.{leb-true, eqb-true, eqb-false, eq-eqb, ne-eqb, not-true}
+use Rattle.terms.specs.Tests.{all}
 use Rattle.terms.specs.Checks.{choose}
-use Rattle.terms.proofs.Tests.{and-left, and-right, so-not, all-at, all-of, all-both, same-eq, same-true}
-use Rattle.dictionary.specs.declared.Child.{Child}
+use Rattle.terms.proofs.Tests.{and-left, and-right, so-not, all-at, all-both, same-eq, same-true}
 use Rattle.dictionary.specs.declared.Child.the-variants.{At, Nothing}
 use Rattle.dictionary.specs.Formats.{setForm, arrayForm, enumForm, stringForm}
-use Rattle.dictionary.specs.Rows.{entries, entriesEnd, kind, numberIn, firstChild, childCount, nameLength, nameOffset, name}
-use Rattle.dictionary.specs.Accepts.{headerFine, blockFine, inTurn, unlike, differs, member, stringChild, setFine, arrayFine, enumFine, leafForm, childless, childrenFine, nameByte, nameByteAt, nameFine, rowFine, accepts}
+use Rattle.dictionary.specs.Rows.{entries, kind, numberIn, firstChild, childCount, nameLength, name}
+use Rattle.dictionary.specs.Accepts.{headerFine, blockFine, inTurn, unlike, differs, member, stringChild, setFine, arrayFine, enumFine, leafForm, childless, childrenFine, nameFine, rowFine, accepts}
 use Rattle.dictionary.specs.Children.{seek, hasNumber, hasName, childNumbered, childNamed}
 use Rattle.dictionary.specs.Given.{Headed, Worded, parent, Family, Members}
 use Rattle.dictionary.specs.Met.{Rowed, Named}

@@ -1,21 +1,20 @@
 -- The children of a set or enum: a name unlike its elders', a child that sits well, and the marks that spare a second comparison.
 -- Assumes nothing.
-use Prim.Native.Nat.{ℕ, suc, _+_, _-_, _*_, _≤_, _<_}
+use Prim.Native.Nat.{ℕ, suc, _+_, _-_, _≤_, _<_}
 use mathlib.Core.Path.{_≡_, refl, sym, ap, _∙_}
 use mathlib.Core.List.{List}
-use mathlib.Core.Bool.{Bool, true, false, not, _&&_}
+use mathlib.Core.Bool.{Bool, true, false, not}
 use native.Mathlib.Omega.{arith}
 use native.Mathlib.Numerals.{add-one}
-use native.Mathlib.Nat.{add-zero}
 use lib.ListN.{length, getD, set}
 use lib.Seq.{slice, getD-set-other}
 use lib.Dec.{eqb}
 use borrow.Author.Tests.{eq-eqb, ne-eqb, eqb-true, eqb-false, not-true, not-false}
 use Rattle.terms.specs.Tests.{all, same, Passing}
-use Rattle.terms.proofs.Tests.{and-not-left, and-not-right, and-both, and-right, all-none, all-suc, all-at, all-fails, all-more, pass-start, pass-stop, pass-more, pass-done}
-use Rattle.dictionary.specs.Rows.{rowAt, entries, kind, numberIn, nameLength, nameOffset, name}
-use Rattle.dictionary.specs.Accepts.{differs, unlike, inTurn, member, stringChild, nameFine}
-use Rattle.dictionary.specs.Met.{Field, Rowed, Named, Settled, Marks, Marked}
+use Rattle.terms.proofs.Tests.{and-not-left, and-not-right, and-both, all-more, pass-start, pass-stop, pass-more, pass-done}
+use Rattle.dictionary.specs.Rows.{kind, numberIn, nameLength, nameOffset, name}
+use Rattle.dictionary.specs.Accepts.{differs, unlike, inTurn, member, stringChild}
+use Rattle.dictionary.specs.Met.{Field, Named, Settled, Marks, Marked}
 use Rattle.dictionary.proofs.Naming.{name-inside, name-two}
 
 -- only strings

@@ -2,17 +2,17 @@
 -- Assumes nothing.
 use Prim.Native.Nat.{ℕ, _+_, _-_, _*_, _≤_, _<_}
 use mathlib.Core.Path.{_≡_, refl, sym, ap, _∙_}
-use mathlib.Core.List.{List, []}
-use mathlib.Core.Bool.{Bool, true, false, not, _&&_, _||_, or-false}
+use mathlib.Core.List.{List}
+use mathlib.Core.Bool.{Bool, true, false, _&&_, _||_}
 use native.Mathlib.Omega.{arith}
 use lib.ListN.{length, getD}
 use lib.Seq.{slice, length-slice, getD-take, getD-drop, ext-getD}
 use lib.Dec.{leb, eqb}
-use borrow.Author.Count.{below-none, below-more}
+use borrow.Author.Count.{below-more}
 use borrow.Author.Tests.{le-leb, lt-leb, eq-eqb, ne-eqb, eqb-true, leb-true}
 use Rattle.terms.specs.Tests.{all, same}
 use Rattle.terms.proofs.Tests.{and-not-right, and-left, and-right, all-at, same-eq, same-ne}
-use Rattle.dictionary.specs.Rows.{rowAt, entries, entriesEnd, nameLength, nameOffset, name}
+use Rattle.dictionary.specs.Rows.{entriesEnd, nameLength, nameOffset, name}
 use Rattle.dictionary.specs.Accepts.{nameByte, nameByteAt, nameFine}
 use Rattle.dictionary.specs.Met.{Field, Rowed, Named}
 

@@ -4,8 +4,6 @@ use Prim.Native.Nat.{ℕ, zero, suc, _+_, _-_, _≤_, _<_}
 use mathlib.Core.Path.{_≡_, refl, sym, ap, _∙_}
 use mathlib.Core.Bool.{Bool, true, false}
 use native.Mathlib.Omega.{arith}
-use native.Mathlib.Nat.{add-suc}
-use Rattle.dictionary.specs.declared.Child.{Child}
 use Rattle.dictionary.specs.declared.Child.the-variants.{At, Nothing}
 use Rattle.dictionary.specs.Children.{seek}
 

@@ -1,5 +1,5 @@
 -- Document 01, "The dictionary": "It is accepted exactly when ..". One definition for each clause of that sentence; `accepts` puts them together.
-use Prim.Native.Nat.{ℕ, _+_, _-_, _*_, _%_}
+use Prim.Native.Nat.{ℕ, _+_, _-_, _%_}
 use mathlib.Core.List.{List}
 use mathlib.Core.Bool.{Bool, true, false, not, _&&_, _||_}
 use lib.ListN.{length}

@@ -4,19 +4,16 @@
 --   parent d r     the row's format has children
 --   Family d r     such a row's children are in range, in turn and found by number
 --   Members d r    the children of a set or enum are named, and no two alike
-use Prim.Native.Nat.{ℕ, _+_, _-_, _*_, _≤_, _<_}
+use Prim.Native.Nat.{ℕ, _+_, _-_, _≤_, _<_}
 use mathlib.Core.Path.{_≡_}
 use mathlib.Core.List.{List}
 use mathlib.Core.Bool.{Bool, true, _||_}
 use lib.ListN.{length, getD}
 use lib.Dec.{eqb}
 use Rattle.terms.specs.Limits.{dictionaryLeast, dictionaryMost}
-use Rattle.dictionary.specs.declared.Child.{Child}
-use Rattle.dictionary.specs.declared.Child.the-variants.{At}
 use Rattle.dictionary.specs.Formats.{setForm, arrayForm, enumForm}
 use Rattle.dictionary.specs.Rows.{entries, entriesEnd, wholeSize, kind, numberIn, firstChild, childCount, nameLength, nameOffset, name}
 use Rattle.dictionary.specs.Accepts.{nameByte}
-use Rattle.dictionary.specs.Children.{childNumbered}
 
 pub record Headed (d : List ℕ) : Type 0 where
   pub least : dictionaryLeast ≤ length d

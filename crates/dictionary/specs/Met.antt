@@ -1,12 +1,12 @@
 -- What the contracts say of their answers, and what a caller has to know before it asks. Each is one record.
-use Prim.Native.Nat.{ℕ, suc, _+_, _-_, _*_, _≤_, _<_}
+use Prim.Native.Nat.{ℕ, suc, _-_, _≤_, _<_}
 use mathlib.Core.Path.{_≡_}
 use mathlib.Core.List.{List}
 use mathlib.Core.Bool.{Bool, true}
 use lib.ListN.{length, getD}
 use Rattle.terms.specs.Limits.{dictionaryMost}
 use Rattle.terms.specs.Tests.{all}
-use Rattle.dictionary.specs.Rows.{rowAt, rowBytes, entries, entriesEnd, numberIn}
+use Rattle.dictionary.specs.Rows.{rowAt, entries, numberIn}
 use Rattle.dictionary.specs.Accepts.{nameFine, member}
 
 -- a field's value, below a bound

@@ -2,7 +2,7 @@
 --   decimalOf i    the text of i
 --   integral t     t is an integer of RFC 8259's grammar with no fraction or exponent: -? (0 | [1-9] [0-9]*)
 --   integerSaid t  the integer that such a text says, or `Wrong`: -0, or more than 8 bytes hold
-use Prim.Native.Nat.{ℕ, zero, suc, _+_, _-_, _*_, _/_, _%_, _^_, _≤_, _<_}
+use Prim.Native.Nat.{ℕ, zero, suc, _+_, _-_, _*_, _/_, _%_, _^_}
 use mathlib.Core.List.{List, [], _∷_, _++_}
 use mathlib.Core.Bool.{Bool, true, false, _&&_, _||_}
 use lib.ListN.{length}

@@ -3,11 +3,10 @@
 --   integerOf v    the integer that the bytes v say
 --   briefOf i      the fewest bytes that say i
 --   Held i         8 bytes hold i ("Integers hold what 8 bytes hold")
-use Prim.Native.Nat.{ℕ, zero, suc, _+_, _-_, _*_, _/_, _%_, _^_, _≤_, _<_}
+use Prim.Native.Nat.{ℕ, zero, suc, _-_, _/_, _%_, _^_, _<_}
 use mathlib.Core.List.{List, [], _∷_}
-use mathlib.Core.Bool.{Bool, true, false}
 use lib.ListN.{length}
-use lib.Dec.{ltb, leb}
+use lib.Dec.{ltb}
 use Rattle.terms.specs.Limits.{integerMost}
 use Rattle.terms.specs.Checks.{choose}
 use Rattle.numbers.specs.declared.Integer.{Integer}

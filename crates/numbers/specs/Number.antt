@@ -2,10 +2,9 @@
 --   Number n b       the bytes b write the number n
 --   numberAt s p e   the number that stands at p and has to end by e: its value and its width N, or the refusal
 --   numberOf n       the shortest bytes that write n
-use Prim.Native.Nat.{ℕ, zero, suc, _+_, _-_, _*_, _/_, _%_, _≤_}
+use Prim.Native.Nat.{ℕ, zero, suc, _+_, _-_, _/_, _%_, _≤_}
 use mathlib.Core.Path.{_≡_}
 use mathlib.Core.List.{List, [], _∷_}
-use mathlib.Core.Bool.{Bool, true, false}
 use lib.ListN.{length}
 use lib.Seq.{slice}
 use lib.Dec.{ltb, leb}

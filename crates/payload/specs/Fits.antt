@@ -2,13 +2,11 @@
 --   known, fresh, child      of a tuple in the value of a row: its number is known there, not given before, and its row
 --   fits, allowed            a format fits a row; a scalar's value is one of the row's
 --   Fits d t row i seen      the run t fits the value of the row, from position i on and after the numbers seen
---   Means d s t n            the payload s means the text t and has n tuples
-use Prim.Native.Nat.{ℕ, zero, suc, _+_, _≤_}
+use Prim.Native.Nat.{ℕ, suc}
 use mathlib.Core.Path.{_≡_}
 use mathlib.Core.List.{List, [], _∷_}
-use mathlib.Core.Bool.{Bool, true, false, not, _&&_, _||_}
+use mathlib.Core.Bool.{Bool, true, false, not, _||_}
 use lib.Dec.{eqb}
-use Rattle.terms.specs.Limits.{depthMost}
 use Rattle.terms.specs.Checks.{choose}
 use Rattle.dictionary.specs.declared.Child.{Child}
 use Rattle.dictionary.specs.declared.Child.the-variants.{At, Nothing}

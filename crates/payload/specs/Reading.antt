@@ -4,9 +4,9 @@
 --   tupleAt, run, insideOf   one tuple, a number of them, and the value of a set or array
 --   rootAt                   the root
 --   reads d s budget room    the answer to a call
-use Prim.Native.Nat.{ℕ, zero, suc, _+_, _-_, _*_, _/_, _%_}
+use Prim.Native.Nat.{ℕ, zero, suc, _+_, _-_, _/_, _%_}
 use mathlib.Core.List.{List, [], _∷_, _++_}
-use mathlib.Core.Bool.{Bool, true, false, not, _&&_, _||_}
+use mathlib.Core.Bool.{Bool, not, _&&_, _||_}
 use lib.ListN.{length, drop}
 use lib.Seq.{slice}
 use lib.Dec.{ltb, leb, eqb}
@@ -18,7 +18,7 @@ use Rattle.numbers.specs.declared.Found.{Found}
 use Rattle.numbers.specs.declared.Found.the-variants.{Fault, Value}
 use Rattle.numbers.specs.Bytes.{byte}
 use Rattle.numbers.specs.Number.{numberAt}
-use Rattle.dictionary.specs.Formats.{setForm, arrayForm, realForm, booleanForm}
+use Rattle.dictionary.specs.Formats.{setForm, realForm, booleanForm}
 use Rattle.dictionary.specs.Accepts.{accepts}
 use Rattle.payload.specs.Tree.{Scalar, Shape, aSet, anArray, Tuples, none, scalar, inner}
 use Rattle.payload.specs.Header.{headerFine}

@@ -2,11 +2,12 @@
 --   word d row x     a scalar at a row
 --   label d row n    what stands before a member: its name and a colon in a set, nothing in an array
 --   textOf d t row   the members of a row's value, between its brackets
---   Means d s b t n  the payload s means the text t and has n tuples, within the budget b
-use Prim.Native.Nat.{ℕ, zero, suc, _+_, _≤_}
+--   rootText, rootCount  the text and the count of tuples of a payload
+--   Means d s t n    the payload s means the text t and has n tuples
+use Prim.Native.Nat.{ℕ, zero, suc, _≤_}
 use mathlib.Core.Path.{_≡_}
 use mathlib.Core.List.{List, [], _∷_, _++_}
-use mathlib.Core.Bool.{Bool, true, false}
+use mathlib.Core.Bool.{true, false}
 use Rattle.terms.specs.Limits.{depthMost}
 use Rattle.terms.specs.Checks.{choose}
 use Rattle.numbers.specs.Decimal.{decimalOf}

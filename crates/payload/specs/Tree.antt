@@ -3,7 +3,7 @@
 --   formatOf, shapeFormat    the format that each is written with
 --   booleanByte              the byte of a boolean
 --   size, count, depth       how many tuples a run has: itself, with all that they hold, and how deep they nest
-use Prim.Native.Nat.{ℕ, zero, suc, _+_, max}
+use Prim.Native.Nat.{ℕ, suc, _+_, max}
 use mathlib.Core.List.{List}
 use mathlib.Core.Bool.{Bool, true, false}
 use Rattle.numbers.specs.declared.Integer.{Integer}

@@ -1,9 +1,9 @@
 -- The answers for one scalar value: what the bytes V say at a row, or the number of the refusal. Document 01, "The payload", and refusals 4, 5 and 10.
 use Prim.Native.Nat.{ℕ, _+_, _-_}
-use mathlib.Core.List.{List, [], _∷_}
-use mathlib.Core.Bool.{Bool, true, false, not, _&&_}
+use mathlib.Core.List.{List}
+use mathlib.Core.Bool.{Bool, true, false, _&&_}
 use lib.ListN.{length, take}
-use lib.Dec.{ltb, leb, eqb}
+use lib.Dec.{leb, eqb}
 use Rattle.terms.specs.Limits.{integerLeast, integerMost}
 use Rattle.terms.specs.Refusals.{valueWrong}
 use Rattle.terms.specs.Checks.{choose}
@@ -12,7 +12,7 @@ use Rattle.numbers.specs.declared.Found.the-variants.{Fault, Value}
 use Rattle.numbers.specs.Bytes.{byte}
 use Rattle.numbers.specs.Number.{numberAt}
 use Rattle.numbers.specs.Integer.{integerOf}
-use Rattle.dictionary.specs.Formats.{nullForm, integerForm, enumForm, stringForm, booleanForm}
+use Rattle.dictionary.specs.Formats.{nullForm, integerForm, enumForm, stringForm}
 use Rattle.dictionary.specs.Children.{childNumbered}
 use Rattle.payload.specs.Tree.{Scalar, null, integer, option, string, boolean, booleanByte}
 use Rattle.payload.specs.Strings.{wellSpelt}

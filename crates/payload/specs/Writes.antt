@@ -3,10 +3,10 @@
 --   Holds x v     the bytes v are a value of the scalar x
 --   Writes t b    the bytes b are the tuples t
 --   Payload t b   the bytes b are a payload whose root has the members t
-use Prim.Native.Nat.{ℕ, _+_, _*_, _/_, _%_, _≤_, _<_}
+use Prim.Native.Nat.{ℕ, _*_, _/_, _%_, _≤_, _<_}
 use mathlib.Core.Path.{_≡_}
 use mathlib.Core.List.{List, [], _∷_, _++_}
-use mathlib.Core.Bool.{Bool, true}
+use mathlib.Core.Bool.{true}
 use lib.ListN.{length}
 use Rattle.terms.specs.Limits.{integerLeast, integerMost}
 use Rattle.numbers.specs.declared.Integer.{Integer}

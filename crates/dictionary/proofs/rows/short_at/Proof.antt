@@ -1,44 +1,19 @@
+-- `dictionary::rows::short_at` meets its contract: two bytes, the least first.
+-- Assumes nothing.
 use Rattle.dictionary.proofs.Fields.{fields}
-use borrow.Author.Needs.{needs}
 use Rattle.dictionary.proofs.rows.short_at.Statement.{statement}
 use Rattle.dictionary.proofs.rows.short_at.Tie as tie
-use Rattle.dictionary.proofs.rows.short_at.Reads as reads
-use Rattle.dictionary.proofs.rows.short_at.Lts as lts
-use Rattle.numbers.proofs.wide.Reads as wide-reads
-
-shared-slice-read-wide : tie.Need-shared-slice-read-wide
-shared-slice-read-wide c = search needs
-
-wide-requires : tie.Need-wide-requires
-wide-requires c κs = search needs
-
-add-wide : tie.Need-add-wide
-add-wide c = search needs
-
-shared-slice-read-wide-2 : tie.Need-shared-slice-read-wide-2
-shared-slice-read-wide-2 c = search needs
-
-wide-requires-2 : tie.Need-wide-requires-2
-wide-requires-2 c κs = search needs
-
-mul-result : tie.Need-mul-result
-mul-result c = search needs
-
-add-result : tie.Need-add-result
-add-result c = search needs
-
-returns : tie.Need-returns
-returns c = search (fields, needs)
+use borrow.Author.Needs.{needs}
 
 pub short-at-spec : {M : Type 1} → statement M
 short-at-spec =
     tie.close
     (tie.spec
-    shared-slice-read-wide
-    wide-requires
-    add-wide
-    shared-slice-read-wide-2
-    wide-requires-2
-    mul-result
-    add-result
-    returns)
+    (λ c. search needs)
+    (λ c κs. search needs)
+    (λ c. search needs)
+    (λ c. search needs)
+    (λ c κs. search needs)
+    (λ c. search needs)
+    (λ c. search needs)
+    (λ c. search (fields, needs)))
