@@ -1,6 +1,6 @@
 -- What acceptance gives, for the crates above: the header, every row's name, and the children of a set, array or enum.
 -- Assumes nothing.
-use Prim.Native.Nat.{ℕ, zero, suc, _+_, _-_, _≤_, _<_}
+use Prim.Native.Nat.{ℕ, zero, suc, _+_, _-_, _%_, _≤_, _<_}
 use mathlib.Core.Path.{_≡_, refl, sym, ap, _∙_}
 use mathlib.Core.List.{List}
 use mathlib.Core.Bool.{Bool, true, false, not, _&&_, _||_, true≢false}
@@ -13,15 +13,48 @@ use Rattle.terms.specs.Checks.{choose}
 use Rattle.terms.proofs.Tests.{and-left, and-right, so-not, all-at, all-both, same-eq, same-true}
 use Rattle.dictionary.specs.declared.Child.the-variants.{At, Nothing}
 use Rattle.dictionary.specs.Formats.{setForm, arrayForm, enumForm, stringForm}
-use Rattle.dictionary.specs.Rows.{entries, kind, numberIn, firstChild, childCount, nameLength, name}
+use lib.ListN.{length}
+use Rattle.dictionary.specs.Rows.{childOffset, wholeSize, entriesEnd, entries, kind, numberIn, firstChild, childCount, nameLength, name}
 use Rattle.dictionary.specs.Accepts.{headerFine, blockFine, inTurn, unlike, differs, member, stringChild, setFine, arrayFine, enumFine, leafForm, childless, childrenFine, nameFine, rowFine, accepts}
 use Rattle.dictionary.specs.Children.{seek, hasNumber, hasName, childNumbered, childNamed}
 use Rattle.dictionary.specs.Given.{Headed, Worded, parent, Family, Members}
 use Rattle.dictionary.specs.Met.{Rowed, Named}
-use Rattle.dictionary.proofs.Headers.{block-inside}
 use Rattle.dictionary.proofs.Naming.{name-inside, name-two, name-long, name-printable}
-use Rattle.dictionary.proofs.Accepted.{header-gives}
 use Rattle.dictionary.proofs.Seeking.{seek-none, seek-here, seek-next, seek-found}
+
+-- a block that is fine lies among the rows
+block-cases : (d : List ℕ) (r : ℕ) (x y : Bool) → eqb (childOffset d r) 0 ≡ x → eqb (childCount d r) 0 ≡ y → (z : Bool) → (x && y) || z && leb (firstChild d r + childCount d r) (entries d) ≡ true → firstChild d r + childCount d r ≤ entries d
+block-cases d r true true f g z h =
+    let o = eqb-true (childOffset d r) 0 f in
+    let k = eqb-true (childCount d r) 0 g in
+    omega (arith, o, k)
+block-cases d r true false f g z h = leb-true _ _ (and-right z _ h)
+block-cases d r false y f g z h = leb-true _ _ (and-right z _ h)
+
+pub block-inside : (d : List ℕ) (r : ℕ) → blockFine d r ≡ true → firstChild d r + childCount d r ≤ entries d
+unfolding blockFine childless
+block-inside d r e = block-cases d r _ _ refl refl (leb 12 (childOffset d r) && eqb ((childOffset d r - 12) % 10) 0) e
+
+-- a header that is fine
+pub header-gives : (d : List ℕ) → headerFine d ≡ true → Headed d
+unfolding headerFine
+header-gives d h = go _ _ _ _ _ _ _ refl refl refl refl refl h
+  where
+    go : (a b c e f g i : Bool) → leb 22 (length d) ≡ a → leb (length d) 65535 ≡ b → eqb (wholeSize d) (length d) ≡ f → leb 1 (entries d) ≡ g → leb (entriesEnd d) (length d) ≡ i → a && b && c && e && f && g && i && eqb (kind d 0) 0 ≡ true → Headed d
+    go a b c e f g i ea eb ef eg ei h =
+        let h7 = and-left (a && b && c && e && f && g && i) (eqb (kind d 0) 0) h in
+        let h6 = and-left (a && b && c && e && f && g) i h7 in
+        let h5 = and-left (a && b && c && e && f) g h6 in
+        let h4 = and-left (a && b && c && e) f h5 in
+        let h2 = and-left (a && b) c (and-left (a && b && c) e h4) in
+        record {
+          least = leb-true 22 (length d) (ea ∙ and-left a b h2);
+          most = leb-true (length d) 65535 (eb ∙ and-right a b h2);
+          sized = eqb-true (wholeSize d) (length d) (ef ∙ and-right (a && b && c && e) f h5);
+          some = leb-true 1 (entries d) (eg ∙ and-right (a && b && c && e && f) g h6);
+          inside = leb-true (entriesEnd d) (length d) (ei ∙ and-right (a && b && c && e && f && g) i h7);
+          root = eqb-true (kind d 0) 0 (and-right (a && b && c && e && f && g && i) (eqb (kind d 0) 0) h);
+        }
 
 member-unlike : (d : List ℕ) (first p : ℕ) → member d first p ≡ true → unlike d first p ≡ true
 unfolding member

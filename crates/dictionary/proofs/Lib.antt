@@ -1,10 +1,6 @@
--- What the proofs of several functions use.
+-- What the proofs of several functions use, and the laws that the crates above cite.
 pub mod Fields
-pub mod Headers
 pub mod Naming
-pub mod Members
-pub mod Families
-pub mod Accepted
 pub mod Seeking
 pub mod Laws
 pub mod Asking

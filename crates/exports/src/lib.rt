@@ -8,7 +8,7 @@ ghost use Rattle.dictionary.specs.Accepts.{accepts};
 pub extern "C" fn broachvale_dictionary_accepts(d: &[u8]) -> u32
     ensures { λ r. ⌜ r ≡ cond (accepts (now (d .entry))) 1 0 ⌝ }
 {
-    if dictionary::judge::judge(d) {
+    if checker::judge(d) {
         return 1;
     }
     0

@@ -85,7 +85,7 @@ fn unhex(text: &[u8], out: &mut [u8]) -> usize
 fn accepted(bytes: &[u8], size: usize) -> bool {
     if size <= bytes.len() {
         let front = &bytes[..size];
-        return dictionary::judge::judge(front);
+        return checker::judge(front);
     }
     false
 }

@@ -2,7 +2,7 @@
 --   Bytes v       every element of v is below 256
 --   little v      the number that v writes, the least byte first ("Multi-byte numbers are little-endian")
 --   lowest k n    the k lowest bytes of n
---   byte, short, long   the numbers of two and of four bytes at a place of s
+--   byte, short, long   the number of one, two and four bytes at a place of s
 use Prim.Native.Nat.{ℕ, zero, suc, _+_, _*_, _/_, _%_, _<_}
 use mathlib.Core.List.{List, [], _∷_}
 use lib.ListN.{getD}

@@ -1,0 +1,34 @@
+-- `checker::members_fine` meets its contract: all children sit well, those settled before included.
+-- Assumes nothing.
+use Prim.Native.Nat.{_-_}
+use Rattle.checker.proofs.Members.{Settling, members}
+use Rattle.checker.proofs.members_fine.Statement.{statement}
+use Rattle.checker.proofs.members_fine.Tie as tie
+use borrow.Author.Needs.{needs}
+
+abbrev Inv-loop : tie.InvT-loop
+Inv-loop d n first count marks₀ p₀ marks p = Settling d first count marks p
+
+abbrev μ-loop : tie.MeasureT-loop
+μ-loop d n first count marks₀ p₀ marks p = count - p
+
+settled-front-requires : tie.Need-settled-front-requires Inv-loop μ-loop
+settled-front-requires c κs = (search needs, (search needs, search needs))
+
+settle-requires : tie.Need-settle-requires Inv-loop μ-loop
+settle-requires c κs = (search needs, (search needs, (search needs, search needs)))
+
+pub members-fine-spec : {M : Type 1} → statement M
+members-fine-spec =
+    tie.close
+    (tie.spec
+    Inv-loop
+    μ-loop
+    settled-front-requires
+    (λ c. search (members, needs))
+    settle-requires
+    (λ c. search (members, needs))
+    (λ c. search (members, needs))
+    (λ c. search (members, needs))
+    (λ c. search (members, needs))
+    (λ c. search (members, needs)))
