@@ -89,8 +89,8 @@ module _ (d : List ℕ) (n : ℕ) (w : Named d n) (r at long k : ℕ) (hk : Fiel
       x (omega (arith, l, hk .same, b .1)))
 
   module _ (o : ℕ) (ho : Field (nameOffset d r) 65536 o) (e : k ≡ long) where
-    pub elder-inside : o + (long - 1) ≤ length d
-    elder-inside = omega (arith, name-inside d n w r (b .0), hk .same, ho .same)
+    pub elder-inside : (m : ℕ) → m ≤ long → o + m ≤ length d
+    elder-inside m h = omega (arith, name-inside d n w r (b .0), hk .same, ho .same)
 
     pub alike-by : (t : Bool) → t ≡ same (slice o (o + (long - 1)) d) (slice at (at + (long - 1)) d) → t ≡ same (name d r) (slice at (at + long - 1) d)
     unfolding name
@@ -99,4 +99,4 @@ module _ (d : List ℕ) (n : ℕ) (w : Named d n) (r at long k : ℕ) (hk : Fiel
         let y : at + (long - 1) ≡ at + long - 1 = omega (arith, b .1) in
         rw (x, y, ho .same) at h
 
-pub ruleset likeness = (unlike-length, elder-inside, alike-by)
+pub ruleset likeness = (unlike-length, alike-by)

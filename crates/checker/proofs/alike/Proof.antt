@@ -4,9 +4,10 @@ use Rattle.checker.proofs.Naming.{likeness, elder-inside}
 use Rattle.checker.proofs.alike.Statement.{statement}
 use Rattle.checker.proofs.alike.Tie as tie
 use borrow.Author.Needs.{needs}
+use native.Mathlib.Omega.{arith}
 
 same-bytes-requires : tie.Need-same-bytes-requires
-same-bytes-requires c κs = let s = c .before .before .before .before in (elder-inside _ _ (s .pre .0) _ _ _ _ (c .before .before .name-length .ensures) (s .pre .1) _ (c .name-offset .ensures) (c .before .if1 .left), search (likeness, needs))
+same-bytes-requires c κs = let s = c .before .before .before .before in (elder-inside _ _ (s .pre .0) _ _ _ _ (c .before .before .name-length .ensures) (s .pre .1) _ (c .name-offset .ensures) (c .before .if1 .left) _ (omega arith), omega arith)
 
 pub alike-spec : {M : Type 1} → statement M
 alike-spec =
