@@ -1,8 +1,9 @@
 -- A desk as bytes, for whoever keeps or carries one: eight records of 16 bytes, in the order of their fields.
 --   encode d     the 128 bytes of a desk
 --   decode bs    the desk that they spell; bytes of another length spell none
+--   Narrow r     each number of a record fits its field
 -- "Multi-byte numbers are little-endian."
-use Prim.Native.Nat.{ℕ, zero, suc, _*_}
+use Prim.Native.Nat.{ℕ, zero, suc, _*_, _^_, _<_}
 use mathlib.Core.List.{List, [], _∷_, _++_}
 use mathlib.Core.Option.{Option, none, some}
 use lib.ListN.{length, take, drop}
@@ -55,3 +56,16 @@ decode bs =
     choose (eqb (length bs) (deskMost * recordBytes))
     (λ _. some (record { records = decodeRecords deskMost bs }))
     (λ _. none)
+
+-- what the fields of the struct hold: 16, 8, 8, 32, 32 and 32 bits
+pub record Narrow (r : Record) : Type 0 where
+  pub number : r .number < 256 ^ 2
+  pub kind : r .kind < 256 ^ 1
+  pub state : r .state < 256 ^ 1
+  pub declared : r .declared < 256 ^ 4
+  pub received : r .received < 256 ^ 4
+  pub due : r .due < 256 ^ 4
+
+abbrev pub AllNarrow : List Record → Type 0
+AllNarrow [] = Unit {0}
+AllNarrow (r ∷ rs) = Narrow r × AllNarrow rs

@@ -24,14 +24,14 @@ use Rattle.desk.specs.Desk.{place, sound, has, recordOf, put}
 use Rattle.desk.specs.Listing.{numbers, rising, thenZeros}
 
 -- a test with the number that is given where it fails; the tests after it wait
-abbrev pub need : Bool → ℕ → (Unit {0} → ℕ) → ℕ
-need test number rest = choose test rest (λ _. number)
+abbrev pub unless : Bool → ℕ → (Unit {0} → ℕ) → ℕ
+unless test number rest = choose test rest (λ _. number)
 
 -- "The desk tests 20, 21, then .."
 abbrev pub admit : Desk → ℕ → (Unit {0} → ℕ) → ℕ
 admit d n rest =
-    need (sound d) notSound λ _.
-    need (not (eqb n 0)) numberZero rest
+    unless (sound d) notSound λ _.
+    unless (not (eqb n 0)) numberZero rest
 
 -- An accepted call replaces one record; "A refusal changes nothing lent".
 abbrev pub settle : Desk → ℕ → ℕ → Record → Moved
@@ -41,9 +41,9 @@ settle d number p r = record { desk = cond (eqb number accepted) (put d p r) d; 
 unfoldable pub openNumber : Desk → ℕ → ℕ → ℕ → ℕ
 openNumber d n kind declared =
     admit d n λ _.
-    need (not (has n d)) inUse λ _.
-    need (suits kind declared) openWrong λ _.
-    need (has 0 d) allTaken λ _.
+    unless (not (has n d)) inUse λ _.
+    unless (suits kind declared) openWrong λ _.
+    unless (has 0 d) allTaken λ _.
     accepted
 
 -- "The lowest empty place is used, one freed earlier included."
@@ -54,9 +54,9 @@ opened d n kind declared = settle d (openNumber d n kind declared) (place 0 (d .
 unfoldable pub callNumber : Desk → ℕ → Move → ℕ
 callNumber d n m =
     admit d n λ _.
-    need (has n d) noSuchNumber λ _.
-    need (m .allowed (recordOf n d .state)) notAllowed λ _.
-    need (m .fits (recordOf n d)) amountWrong λ _.
+    unless (has n d) noSuchNumber λ _.
+    unless (m .allowed (recordOf n d .state)) notAllowed λ _.
+    unless (m .fits (recordOf n d)) amountWrong λ _.
     accepted
 
 -- The five calls below, and feed, are this one.
@@ -81,7 +81,7 @@ closed d n = called d n closing
 -- 20 for "desk not sound (below), or the store isn't 32,768 bytes"
 unfoldable pub feedNumber : Desk → List ℕ → ℕ → List ℕ → ℕ
 feedNumber d store n piece =
-    need (eqb (length store) storeBytes) notSound λ _.
+    unless (eqb (length store) storeBytes) notSound λ _.
     callNumber d n (feeding (length piece))
 
 -- "received grows by their count; 2 once all are in"
@@ -109,7 +109,7 @@ told d n = telling (statusNumber d n) (cond (eqb (statusNumber d n) accepted) (r
 
 -- List names no operation, so that 20 is its only refusal.
 unfoldable pub listNumber : Desk → ℕ
-listNumber d = need (sound d) notSound λ _. accepted
+listNumber d = unless (sound d) notSound λ _. accepted
 
 -- "list: the numbers in rising order, then zeros."
 unfoldable pub listed : Desk → Listed

@@ -5,3 +5,4 @@ pub mod Listing
 pub mod Calls
 pub mod View
 pub mod Bytes
+pub mod State

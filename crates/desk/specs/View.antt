@@ -1,17 +1,21 @@
 -- What a desk and its store say, number by number: where a number stands is no part of it.
---   GoodDesk d    a desk that no call refuses with 20
---   Kept, Fit     a desk with its store; both as they should be
+--   GoodDesk d    eight records, and sound
+--   Kept          a desk with its store
 --   Seen, see     what there is of one number: its record and its received bytes
---   Room d        a place is empty
+--   Lists d l ns  the answer l to list names the operations of d: ns, in rising order
 use Prim.Native.Nat.{ℕ, _*_}
 use mathlib.Core.Path.{_≡_}
-use mathlib.Core.Bool.{true}
+use mathlib.Core.Bool.{true, false}
 use mathlib.Core.List.{List}
 use lib.ListN.{length, take, drop}
-use Rattle.terms.specs.Limits.{deskMost, declaredMost, storeBytes}
+use Rattle.terms.specs.Limits.{deskMost, declaredMost}
+use Rattle.terms.specs.Refusals.{accepted}
 use Rattle.desk.specs.declared.Record.{Record}
 use Rattle.desk.specs.declared.Desk.{Desk}
+use Rattle.desk.specs.declared.Listed.{Listed}
 use Rattle.desk.specs.Desk.{place, sound, has, recordOf}
+use Rattle.terms.specs.Tests.{among}
+use Rattle.desk.specs.Listing.{thenZeros, Rises}
 
 -- "Its records are eight in an array passed whole."
 pub record GoodDesk (d : Desk) : Type 0 where
@@ -21,10 +25,6 @@ pub record GoodDesk (d : Desk) : Type 0 where
 pub record Kept : Type 0 where
   pub desk : Desk
   pub store : List ℕ
-
-pub record Fit (k : Kept) : Type 0 where
-  pub good : GoodDesk (k .desk)
-  pub size : length (k .store) ≡ storeBytes
 
 -- "place p, from 0, has those from 4,096p": the first `received` of them are the operation's, the others are nobody's
 abbrev pub bytesOf : ℕ → Desk → List ℕ → List ℕ
@@ -37,5 +37,11 @@ pub record Seen : Type 0 where
 abbrev pub see : ℕ → Kept → Seen
 see n k = record { entry = recordOf n (k .desk); bytes = bytesOf n (k .desk) (k .store) }
 
-abbrev pub Room : Desk → Type 0
-Room d = has 0 d ≡ true
+-- "list: the numbers in rising order, then zeros.": they rise, and are exactly those in use
+pub record Lists (d : Desk) (l : Listed) (ns : List ℕ) : Type 0 where
+  pub accepts : l .number ≡ accepted
+  pub shows : l .operations ≡ thenZeros ns
+  pub eight : length (l .operations) ≡ deskMost
+  pub rise : Rises ns
+  pub used : (n : ℕ) → (n ≡ 0 → ⊥) → among n ns ≡ has n d
+  pub noZero : among 0 ns ≡ false

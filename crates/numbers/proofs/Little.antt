@@ -12,10 +12,9 @@ use lib.ListN.{length}
 use lib.Dec.{ltb}
 use borrow.Author.Tests.{ltb-true, ltb-false, lt-ltb, le-ltb}
 use Rattle.terms.specs.Checks.{choose}
-use Rattle.numbers.specs.Bytes.{Bytes, byte, little}
+use Rattle.numbers.specs.Bytes.{Bytes, byte, little, lowest}
 use Rattle.numbers.specs.Number.{fewest}
 use Rattle.numbers.specs.Integer.{clear, flip}
-use Rattle.numbers.specs.Bytes.{lowest}
 
 unfoldable pub until : ℕ → ℕ → ℕ → List ℕ
 until b zero n = []
@@ -145,3 +144,20 @@ flip-lowest (suc j) (suc k) n m l h =
     let e : 255 - n % 256 ≡ m % 256 = omega (arith, h) in
     let r = flip-lowest j k (n / 256) (m / 256) (omega arith) (omega (arith, h)) in
     rw (e, r)
+
+-- bytes of a fixed number and what they say undo each other
+pub little-lowest : (k n : ℕ) → n < 256 ^ k → little (lowest k n) ≡ n
+unfolding little lowest
+little-lowest zero n h = omega arith
+little-lowest (suc k) n h = let e = little-lowest k (n / 256) (omega arith) in omega arith
+
+pub lowest-little : (k : ℕ) (v : List ℕ) → length v ≡ k → Bytes v → lowest k (little v) ≡ v
+unfolding little lowest
+lowest-little zero [] l h = refl
+lowest-little zero (x ∷ v) l h = absurd (omega arith)
+lowest-little (suc k) [] l h = absurd (omega arith)
+lowest-little (suc k) (x ∷ v) l h =
+    let b = h .0 in
+    let e : (x + 256 * little v) % 256 ≡ x = omega arith in
+    let f : (x + 256 * little v) / 256 ≡ little v = omega arith in
+    rw (e, f, lowest-little k v (omega arith) (h .1))
