@@ -1,6 +1,6 @@
 -- Decoding what was encoded gives it back, and encoding what was decoded gives the bytes back.
 -- Assumes nothing.
-use Prim.Native.Nat.{ℕ, zero, suc, _+_, _*_, _/_, _%_, _^_, _<_, _≤_}
+use Prim.Native.Nat.{ℕ, zero, suc, _+_, _*_, _≤_}
 use mathlib.Core.Path.{_≡_, refl, sym, ap, _∙_}
 use mathlib.Core.List.{List, [], _∷_, _++_}
 use mathlib.Core.Option.{Option, none, some}
@@ -10,7 +10,7 @@ use lib.Seq.{take-add, drop-drop, length-take-le}
 use lib.Dec.{eqb}
 use borrow.Author.Tests.{eq-eqb, eqb-true}
 use Rattle.terms.specs.Limits.{deskMost}
-use Rattle.numbers.specs.Bytes.{Bytes, little, lowest}
+use Rattle.numbers.specs.Bytes.{Bytes, lowest}
 use Rattle.desk.specs.declared.Record.{Record}
 use Rattle.desk.specs.declared.Desk.{Desk}
 use Rattle.numbers.proofs.Little.{little-lowest, lowest-little}

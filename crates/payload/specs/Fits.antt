@@ -5,9 +5,10 @@
 use Prim.Native.Nat.{ℕ, suc}
 use mathlib.Core.Path.{_≡_}
 use mathlib.Core.List.{List, [], _∷_}
-use mathlib.Core.Bool.{Bool, true, false, not, _||_}
+use mathlib.Core.Bool.{Bool, true, false, not}
 use lib.Dec.{eqb}
 use Rattle.terms.specs.Checks.{choose}
+use Rattle.terms.specs.Tests.{among}
 use Rattle.dictionary.specs.declared.Child.{Child}
 use Rattle.dictionary.specs.declared.Child.the-variants.{At, Nothing}
 use Rattle.dictionary.specs.Formats.{setForm, nullForm}
@@ -25,10 +26,6 @@ rowOf Nothing = 0
 
 abbrev pub isSet : List ℕ → ℕ → Bool
 isSet d row = eqb (kind d row) setForm
-
-unfoldable pub among : ℕ → List ℕ → Bool
-among n [] = false
-among n (m ∷ seen) = eqb n m || among n seen
 
 -- a set knows its children by number; "An array's tuples carry their index from 0; all use the one child."
 unfoldable pub known : List ℕ → ℕ → ℕ → ℕ → Bool

@@ -1,12 +1,12 @@
--- The answers: what the reader says to every dictionary, payload, budget and room, with the paper's order of checks. Document 01: "Checks for a tuple, in this order: budget; S;
--- selector; sequence known; repeat; deferred bit and format supported; format fits the row; L; room in the enclosing value; depth; value." "Reading stops at the
--- first fault met, tuples taken in byte order; bytes left in a set or array are judged after its children."
+-- The answers: what the reader says to every dictionary, payload, budget and room, with the paper's order of checks. Document 01: "Reading stops at the first fault met, tuples taken in byte
+-- order; bytes left in a set or array are judged after its children."
+--   asked                    the checks of a tuple before its value
 --   tupleAt, run, insideOf   one tuple, a number of them, and the value of a set or array
 --   rootAt                   the root
 --   reads d s budget room    the answer to a call
 use Prim.Native.Nat.{ℕ, zero, suc, _+_, _-_, _/_, _%_}
 use mathlib.Core.List.{List, [], _∷_, _++_}
-use mathlib.Core.Bool.{Bool, not, _&&_, _||_}
+use mathlib.Core.Bool.{Bool, true, not, _&&_, _||_}
 use lib.ListN.{length, drop}
 use lib.Seq.{slice}
 use lib.Dec.{ltb, leb, eqb}
@@ -59,6 +59,22 @@ abbrev pub shapeOf : ℕ → Shape
 shapeOf zero = aSet
 shapeOf (suc f) = anArray
 
+-- "Checks for a tuple, in this order: budget; S; selector; sequence known; repeat; deferred bit and format supported; format fits the row; L; room in the enclosing value; depth; value." Those of a tuple
+-- at `at` that ends by e, with l left of the budget: `knows`, `news` and `suits` are the tests of its number, of a repeat and of its format, and `body` judges V, whose number, format, first byte and end it is given
+unfoldable pub asked : {A : Type 0} → List ℕ → (ℕ → Bool) → (ℕ → Bool) → (ℕ → ℕ → Bool) → (ℕ → ℕ → ℕ → ℕ → Judged A) → ℕ → ℕ → ℕ → Judged A
+asked s knows news suits body at e l =
+    refuse (eqb l 0) budgetSpent at λ _.
+    number (numberAt s at e) at at λ S p.
+    need (eqb (S % 2) 0) notInBase at λ _.
+    need (knows (S / 2)) notKnown at λ _.
+    need (news (S / 2)) givenTwice at λ _.
+    refuse (leb e p) pastEnd at λ _.
+    need (supported (byte s p)) notInBase at λ _.
+    need (suits (S / 2) (byte s p / 16)) misfit at λ _.
+    number (numberAt s (p + 1) e) at (p + 1) λ len q.
+    refuse (ltb (e - q) len) pastEnd at λ _.
+    body (S / 2) (byte s p / 16) q (q + len)
+
 module _ (d s : List ℕ) where
   -- V, of the format f at the row r, from p to q. `inside` reads the value of a set or array: row, start of its tuple, first byte and end of V, budget
   abbrev pub bodyAt : (ℕ → ℕ → ℕ → ℕ → ℕ → Judged Tuples) → ℕ → ℕ → ℕ → ℕ → ℕ → ℕ → ℕ → Judged Single
@@ -67,30 +83,12 @@ module _ (d s : List ℕ) where
       value (scalarValue d r f (slice p q s)) at λ x.
       good q left (plain n x)
 
-  -- L, and the room for V in the enclosing value
-  abbrev pub sizedAt : (ℕ → ℕ → ℕ → ℕ → ℕ → Judged Tuples) → ℕ → ℕ → ℕ → ℕ → ℕ → ℕ → ℕ → Judged Single
-  sizedAt inside n r f at p e left =
-      number (numberAt s p e) at p λ len q.
-      refuse (ltb (e - q) len) pastEnd at λ _.
-      bodyAt inside n r f at q (q + len) left
-
-  -- F
-  abbrev pub formAt : (ℕ → ℕ → ℕ → ℕ → ℕ → Judged Tuples) → ℕ → ℕ → ℕ → ℕ → ℕ → ℕ → Judged Single
-  formAt inside n r at p e left =
-      refuse (leb e p) pastEnd at λ _.
-      need (supported (byte s p)) notInBase at λ _.
-      need (fits d r (byte s p / 16)) misfit at λ _.
-      sizedAt inside n r (byte s p / 16) at (p + 1) e left
-
   -- the tuple at `at`, which has to end by e: the i-th in the value of a row, after the numbers seen
   unfoldable pub tupleAt : (ℕ → ℕ → ℕ → ℕ → ℕ → Judged Tuples) → ℕ → ℕ → List ℕ → ℕ → ℕ → ℕ → Judged Single
   tupleAt inside row i seen at e left =
-      refuse (eqb left 0) budgetSpent at λ _.
-      number (numberAt s at e) at at λ S p.
-      need (eqb (S % 2) 0) notInBase at λ _.
-      need (known d row i (S / 2)) notKnown at λ _.
-      need (fresh d row seen (S / 2)) givenTwice at λ _.
-      formAt inside (S / 2) (child d row (S / 2)) at p e (left - 1)
+      asked s (known d row i) (fresh d row seen) (λ n f. fits d (child d row n) f)
+      (λ n f q z. bodyAt inside n (child d row n) f at q z (left - 1))
+      at e left
 
   -- k tuples from p on
   unfoldable pub run : (ℕ → ℕ → List ℕ → ℕ → ℕ → ℕ → Judged Single) → ℕ → ℕ → ℕ → List ℕ → ℕ → ℕ → ℕ → Judged Tuples
@@ -112,16 +110,9 @@ module _ (d s : List ℕ) where
   -- "The root is a set, S is 0, row 0": any other number is not known, any other format does not fit, and null neither
   unfoldable pub rootAt : ℕ → Judged Tuples
   rootAt budget =
-      refuse (eqb budget 0) budgetSpent payloadLeast λ _.
-      number (numberAt s payloadLeast (length s)) payloadLeast payloadLeast λ S p.
-      need (eqb (S % 2) 0) notInBase payloadLeast λ _.
-      need (eqb (S / 2) 0) notKnown payloadLeast λ _.
-      refuse (leb (length s) p) pastEnd payloadLeast λ _.
-      need (supported (byte s p)) notInBase payloadLeast λ _.
-      need (eqb (byte s p / 16) setForm) misfit payloadLeast λ _.
-      number (numberAt s (p + 1) (length s)) payloadLeast (p + 1) λ len q.
-      refuse (ltb (length s - q) len) pastEnd payloadLeast λ _.
-      insideOf depthMost 0 payloadLeast q (q + len) (budget - 1)
+      asked s (λ n. eqb n 0) (λ n. true) (λ n f. eqb f setForm)
+      (λ n f q z. insideOf depthMost 0 payloadLeast q z (budget - 1))
+      payloadLeast (length s) budget
 
   -- "Nothing follows it"
   unfoldable pub treeOf : ℕ → Judged Tuples

@@ -2,7 +2,7 @@
 -- Assumes nothing.
 use mathlib.Core.Path.{_≡_, refl}
 use mathlib.Core.List.{map}
-use Rattle.terms.specs.Tests.{all, same}
+use Rattle.terms.specs.Tests.{all, same, among}
 use Rattle.numbers.specs.Bytes.{little, short, long}
 use Rattle.numbers.specs.Number.{numberAt, fewest, numberOf}
 use Rattle.numbers.specs.Integer.{flip, integerOf, clear, briefOf}
@@ -15,11 +15,11 @@ use Rattle.payload.specs.Strings.{stringByte}
 use Rattle.payload.specs.Header as Header
 use Rattle.payload.specs.Tree.{size, count}
 use Rattle.payload.specs.Fits as Fits
-use Rattle.payload.specs.Fits.{among, known, child, fits}
+use Rattle.payload.specs.Fits.{known, child, fits}
 use Rattle.payload.specs.Text.{label, textOf}
 use Rattle.payload.specs.Values.{integerValue, booleanValue, optionValue, scalarValue}
 use Rattle.payload.specs.Reading as Reading
-use Rattle.payload.specs.Reading.{supported, tupleAt, reads}
+use Rattle.payload.specs.Reading.{supported, asked, tupleAt, reads}
 use Rattle.text.specs.Tokens.{space, sign, letter, wordByte}
 use Rattle.text.specs.Numerals.{leading}
 use Rattle.text.specs.Scanning.{past, stringAt, wordAt, tokenAt}
@@ -42,7 +42,7 @@ unfolding ascii digit hex figure6 numbersOf deskAfter answer starred all same
     little short long numberAt fewest numberOf flip integerOf clear briefOf digits decimal decimalOf digitsOnly plain integral valueFrom integerSaid
     name Accepts.headerFine childless blockFine inTurn unlike member stringChild setFine arrayFine enumFine leafForm childrenFine nameByte nameFine rowFine accepts
     seek childNumbered childNamed stringByte size count among known child Fits.fresh fits label textOf integerValue booleanValue optionValue scalarValue
-    supported Header.headerFine tupleAt Reading.run Reading.insideOf Reading.rootAt Reading.treeOf reads
+    supported Header.headerFine asked tupleAt Reading.run Reading.insideOf Reading.rootAt Reading.treeOf reads
     space sign letter wordByte leading past stringAt wordAt tokenAt tupleOf shortest payloadOf inBase isEnum formFor scalarFor
     keyAt valueAt memberAt Writing.run Writing.insideOf Writing.rootAt Writing.treeOf writes
     suits elseZero declaredSound stateSound receivedSound dueSound soundRecord opening killing closing place Desk.fresh soundRecords

@@ -1,0 +1,127 @@
+-- What the tests say that meaning and answers share, of a row of an accepted dictionary.
+-- Assumes nothing.
+--   In n seen                  n is one of the numbers seen; among-in: the test
+--   known-set, known-array     which numbers are known in the value of a row; child-set, child-array: and their rows
+--   fresh-set, fresh-array     none twice, in a set
+--   fits-null, fits-own        which formats fit a row
+--   option-known               which options an enum's row allows
+--   child-inside               the row of a known number is a row of the dictionary
+use mathlib.Core.Path.{_≡_, refl, sym, ap, _∙_}
+use mathlib.Core.Logic.{_↔_, _⊎_, inl, inr}
+use mathlib.Core.List.{List, [], _∷_}
+use mathlib.Core.Bool.{Bool, true, false, not, _||_, true≢false}
+use Prim.Native.Nat.{ℕ, _+_, _<_}
+use native.Mathlib.Omega.{arith}
+use lib.Dec.{ltb, eqb}
+use borrow.Author.Tests.{ltb-true, ltb-false, eqb-true, eqb-false, eq-eqb, ne-eqb, not-true}
+use Rattle.terms.specs.Tests.{among}
+use Rattle.terms.proofs.Tests.{so-not, not-so}
+use Rattle.dictionary.specs.Formats.{setForm, arrayForm, nullForm}
+use Rattle.dictionary.specs.Rows.{entries, kind, nullable, firstChild, childCount}
+use Rattle.dictionary.specs.Accepts.{accepts}
+use Rattle.dictionary.specs.Children.{childNumbered}
+use Rattle.dictionary.specs.Given.{parent, Family}
+use Rattle.dictionary.proofs.Laws.{number-known, number-unknown, accepted-family, accepted-array}
+use Rattle.payload.specs.Tree.{option}
+use Rattle.payload.specs.Fits.{found, known, child, fresh, fits, allowed}
+
+abbrev pub In : ℕ → List ℕ → Type 0
+In n [] = ⊥
+In n (m ∷ seen) = (n ≡ m) ⊎ In n seen
+
+pub among-in : (n : ℕ) (seen : List ℕ) → (among n seen ≡ true) ↔ In n seen
+unfolding among
+among-in n [] = (λ e. true≢false (sym e), λ h. absurd h)
+among-in n (m ∷ seen) = (λ e. there (eqb m n) refl e (among-in n seen .0), λ h. back h (among-in n seen .1))
+  where
+    there : (t : Bool) → eqb m n ≡ t → t || among n seen ≡ true → (among n seen ≡ true → In n seen) → In n (m ∷ seen)
+    there true f e g = inl (sym (eqb-true m n f))
+    there false f e g = inr (g e)
+
+    or-true : (t : Bool) → t || true ≡ true
+    or-true true = refl
+    or-true false = refl
+
+    back : In n (m ∷ seen) → (In n seen → among n seen ≡ true) → eqb m n || among n seen ≡ true
+    back (inl e) g = rw (eq-eqb m n (sym e))
+    back (inr h) g = rw (g h) (or-true (eqb m n))
+
+-- a child by number: found exactly where the number is below the count
+module _ (d : List ℕ) (row : ℕ) (w : Family d row) (n : ℕ) where
+  found-below : (found (childNumbered d row n) ≡ true) ↔ (n < childCount d row)
+  found-below = (λ e. go (ltb n (childCount d row)) refl e, λ h. ap found (number-known d row n w h))
+    where
+      go : (t : Bool) → ltb n (childCount d row) ≡ t → found (childNumbered d row n) ≡ true → n < childCount d row
+      go true f e = ltb-true n (childCount d row) f
+      go false f e = absurd (true≢false (sym e ∙ ap found (number-unknown d row n w (ltb-false n (childCount d row) f))))
+
+  pub option-known : (allowed d row (option n) ≡ true) ↔ (n < childCount d row)
+  option-known = found-below
+
+  module _ (k : kind d row ≡ setForm) where
+    pub known-set : (i : ℕ) → (known d row i n ≡ true) ↔ (n < childCount d row)
+    unfolding known
+    known-set i = rw (eq-eqb (kind d row) 0 k) found-below
+
+    pub child-set : n < childCount d row → child d row n ≡ firstChild d row + n
+    unfolding child
+    child-set h = rw (eq-eqb (kind d row) 0 k, number-known d row n w h)
+
+module _ (d : List ℕ) (row n : ℕ) where
+  pub fresh-set : kind d row ≡ setForm → (seen : List ℕ) → (fresh d row seen n ≡ true) ↔ (In n seen → ⊥)
+  unfolding fresh
+  fresh-set k seen = rw (eq-eqb (kind d row) 0 k) (λ e h. so-not (among n seen) (not-true _ e) (among-in n seen .1 h), λ f. ap not (not-so (among n seen) (λ e. f (among-in n seen .0 e))))
+
+  module _ (k : kind d row ≡ setForm → ⊥) where
+    pub known-array : (i : ℕ) → (known d row i n ≡ true) ↔ (n ≡ i)
+    unfolding known
+    known-array i = rw (ne-eqb (kind d row) 0 k) (λ e. eqb-true n i e, λ e. eq-eqb n i e)
+
+    pub child-array : child d row n ≡ firstChild d row
+    unfolding child
+    child-array = rw (ne-eqb (kind d row) 0 k)
+
+    pub fresh-array : (seen : List ℕ) → fresh d row seen n ≡ true
+    unfolding fresh
+    fresh-array seen = rw (ne-eqb (kind d row) 0 k)
+
+pub fits-null : (d : List ℕ) (row : ℕ) → fits d row nullForm ≡ nullable d row
+unfolding fits
+fits-null d row = refl
+
+pub fits-own : (d : List ℕ) (row f : ℕ) → (f ≡ nullForm → ⊥) → (fits d row f ≡ true) ↔ (f ≡ kind d row)
+unfolding fits
+fits-own d row f h = rw (ne-eqb f 2 h) (λ e. eqb-true f (kind d row) e, λ e. eq-eqb f (kind d row) e)
+
+-- a set or an array has children
+holder : (d : List ℕ) (row : ℕ) → kind d row < 2 → parent d row ≡ true
+unfolding parent
+holder d row h = go (eqb (kind d row) 0) refl
+  where
+    array : (f : ℕ) → f < 2 → (f ≡ 0 → ⊥) → f ≡ 1
+    array f a b = omega arith
+
+    go : (t : Bool) → eqb (kind d row) 0 ≡ t → t || eqb (kind d row) 1 || eqb (kind d row) 4 ≡ true
+    go true e = refl
+    go false e = rw (eq-eqb (kind d row) 1 (array (kind d row) h (eqb-false (kind d row) 0 e)))
+
+-- the rows that a payload can come to
+module _ (d : List ℕ) (ok : accepts d ≡ true) (row : ℕ) (h : row < entries d) where
+  pub child-inside : (i n : ℕ) → kind d row < 2 → known d row i n ≡ true → child d row n < entries d
+  child-inside i n k e = go (eqb (kind d row) 0) refl
+    where
+      family : Family d row
+      family = accepted-family d ok row h (holder d row k)
+
+      go : (t : Bool) → eqb (kind d row) 0 ≡ t → child d row n < entries d
+      go true f =
+          let z = eqb-true (kind d row) 0 f in
+          let l = known-set d row family n z i .0 e in
+          omega (arith, child-set d row family n z l, family .within)
+      go false f =
+          let z = eqb-false (kind d row) 0 f in
+          let one : kind d row ≡ arrayForm = array (kind d row) k z in
+          omega (arith, child-array d row n z, family .within, accepted-array d ok row h one)
+        where
+          array : (f : ℕ) → f < 2 → (f ≡ 0 → ⊥) → f ≡ 1
+          array f a b = omega arith
