@@ -73,11 +73,11 @@ member-differs d first p q l e f =
     (not-true _ (all-at (differs d first p) p (and-right (not (eqb (nameLength d (first + p)) 0)) _ (member-unlike d first p e)) q l))
     (same-eq _ _ f)
 
-array-parent : (d : List ℕ) (r : ℕ) → kind d r ≡ arrayForm → parent d r ≡ true
+pub array-parent : (d : List ℕ) (r : ℕ) → kind d r ≡ arrayForm → parent d r ≡ true
 unfolding parent
 array-parent d r e = rw e
 
-enum-parent : (d : List ℕ) (r : ℕ) → kind d r ≡ enumForm → parent d r ≡ true
+pub enum-parent : (d : List ℕ) (r : ℕ) → kind d r ≡ enumForm → parent d r ≡ true
 unfolding parent
 enum-parent d r e = rw e
 

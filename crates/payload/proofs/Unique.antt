@@ -76,7 +76,7 @@ pub shape-low : (g : Shape) → shapeFormat g < 2
 shape-low aSet = omega arith
 shape-low anArray = omega arith
 
-shape-unique : (g h : Shape) → shapeFormat g ≡ shapeFormat h → g ≡ h
+pub shape-unique : (g h : Shape) → shapeFormat g ≡ shapeFormat h → g ≡ h
 shape-unique aSet aSet e = refl
 shape-unique aSet anArray e = absurd (omega arith)
 shape-unique anArray aSet e = absurd (omega arith)
