@@ -70,7 +70,7 @@ module _ (d : List ℕ) (row n : ℕ) where
   label-closes aSet x y k e = absurd (let z = head-eq-of-cons-eq (ap (λ (l : List ℕ). l ++ x) (sym (label-set k)) ∙ e) in omega (arith, z))
   label-closes anArray x y k e = ap (λ (l : List ℕ). l ++ x) (sym (label-array (λ z. omega (arith, sym k ∙ z)))) ∙ e
 
-set-parent : (d : List ℕ) (row : ℕ) → kind d row ≡ setForm → parent d row ≡ true
+pub set-parent : (d : List ℕ) (row : ℕ) → kind d row ≡ setForm → parent d row ≡ true
 unfolding parent
 set-parent d row k = rw k
 
