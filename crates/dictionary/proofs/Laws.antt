@@ -1,4 +1,4 @@
--- What acceptance gives, for the crates above: the header, every row's name, and the children of a set, array or enum.
+-- What acceptance gives, for the crates above: the header, every row's name, and the children of a set, array or enum, by number and by name.
 -- Assumes nothing.
 use Prim.Native.Nat.{ℕ, zero, suc, _+_, _-_, _%_, _≤_, _<_}
 use mathlib.Core.Path.{_≡_, refl, sym, ap, _∙_}
@@ -6,11 +6,11 @@ use mathlib.Core.List.{List}
 use mathlib.Core.Bool.{Bool, true, false, not, _&&_, _||_, true≢false}
 use native.Mathlib.Omega.{arith}
 use native.Mathlib.Nat.{add-zero}
-use lib.Dec.{leb, eqb}
-use borrow.Author.Tests.{leb-true, eqb-true, eqb-false, eq-eqb, ne-eqb, not-true}
+use lib.Dec.{ltb, leb, eqb}
+use borrow.Author.Tests.{ltb-true, ltb-false, leb-true, eqb-true, eqb-false, eq-eqb, ne-eqb, not-true}
 use Rattle.terms.specs.Tests.{all}
 use Rattle.terms.specs.Checks.{choose}
-use Rattle.terms.proofs.Tests.{and-left, and-right, so-not, all-at, all-both, same-eq, same-true}
+use Rattle.terms.proofs.Tests.{and-left, and-right, so-not, all-at, all-both, same-refl, same-eq, same-true}
 use Rattle.dictionary.specs.declared.Child.the-variants.{At, Nothing}
 use Rattle.dictionary.specs.Formats.{setForm, arrayForm, enumForm, stringForm}
 use lib.ListN.{length}
@@ -20,7 +20,7 @@ use Rattle.dictionary.specs.Children.{seek, hasNumber, hasName, childNum
 use Rattle.dictionary.specs.Given.{Headed, Worded, parent, Family, Members}
 use Rattle.dictionary.specs.Met.{Rowed, Named}
 use Rattle.dictionary.proofs.Naming.{name-inside, name-two, name-long, name-printable}
-use Rattle.dictionary.proofs.Seeking.{seek-none, seek-here, seek-next, seek-found}
+use Rattle.dictionary.proofs.Seeking.{Sought, seek-none, seek-here, seek-next, seek-found, seek-some}
 
 -- a block that is fine lies among the rows
 block-cases : (d : List ℕ) (r : ℕ) (x y : Bool) → eqb (childOffset d r) 0 ≡ x → eqb (childCount d r) 0 ≡ y → (z : Bool) → (x && y) || z && leb (firstChild d r + childCount d r) (entries d) ≡ true → firstChild d r + childCount d r ≤ entries d
@@ -289,3 +289,27 @@ module _ (d : List ℕ) (r : ℕ) (t : List ℕ) (w : Family d r) where
       let m : numberIn d c ≡ c - firstChild d r = rw q at p in
       let k = number-known d r (numberIn d c) w (omega (arith, m, s .from, s .under)) in
       (omega (arith, s .under, w .within), same-true _ _ (s .passes), k ∙ ap At (omega (arith, m, s .from)))
+
+-- two children of one name are one
+pub sibling : (d : List ℕ) (row p q : ℕ) → Members d row → p < childCount d row → q < childCount d row → name d (firstChild d row + p) ≡ name d (firstChild d row + q) → p ≡ q
+sibling d row p q m h g e = go (ltb p q) (ltb q p) refl refl
+  where
+    go : (a b : Bool) → ltb p q ≡ a → ltb q p ≡ b → p ≡ q
+    go true b f k = absurd (m .differ q p (ltb-true p q f) g e)
+    go false true f k = absurd (m .differ p q (ltb-true q p k) h (sym e))
+    go false false f k = omega (arith, ltb-false p q f, ltb-false q p k)
+
+-- so a child is found by its name
+pub named-known : (d : List ℕ) (row n : ℕ) → Family d row → Members d row → n < childCount d row → childNamed d row (name d (firstChild d row + n)) ≡ At (firstChild d row + n)
+unfolding childNamed
+named-known d row n w m h =
+    let t = name d (firstChild d row + n) in
+    let o = seek-some (hasName d t) (childCount d row) (firstChild d row) (firstChild d row + n) (same-refl t) (omega arith) (omega arith) in
+    o .1 ∙ ap At (one (o .0) (seek-found (hasName d t) (childCount d row) (firstChild d row) (o .0) (o .1)))
+  where
+    one : (c : ℕ) → Sought (hasName d (name d (firstChild d row + n))) (childCount d row) (firstChild d row) c → c ≡ firstChild d row + n
+    one c s =
+        let q : firstChild d row + (c - firstChild d row) ≡ c = omega (arith, s .from) in
+        let e : name d (firstChild d row + (c - firstChild d row)) ≡ name d (firstChild d row + n) = rw q (same-true (name d c) (name d (firstChild d row + n)) (s .passes)) in
+        let z = sibling d row (c - firstChild d row) n m (omega (arith, s .from, s .under)) h e in
+        omega (arith, z, s .from)

@@ -4,6 +4,9 @@ use Prim.Native.Nat.{ℕ, zero, suc, _+_, _-_, _≤_, _<_}
 use mathlib.Core.Path.{_≡_, refl, sym, ap, _∙_}
 use mathlib.Core.Bool.{Bool, true, false}
 use native.Mathlib.Omega.{arith}
+use lib.Dec.{eqb}
+use borrow.Author.Tests.{eqb-true, eqb-false}
+use Rattle.terms.specs.Checks.{choose}
 use Rattle.dictionary.specs.declared.Child.the-variants.{At, Nothing}
 use Rattle.dictionary.specs.Children.{seek}
 
@@ -40,3 +43,17 @@ module _ (P : ℕ → Bool) where
           let i : c + 1 ≡ suc c = omega arith in
           let y = rec (sym (rw (g, i) at (seek-next (suc k) c (omega arith) f)) ∙ e) in
           record { passes = y .passes; from = omega (arith, y .from); under = omega (arith, y .under) }
+
+  -- where one passes, one is found
+  pub seek-some : (k c x : ℕ) → P x ≡ true → c ≤ x → x < c + k → (y : ℕ) × (seek k c P ≡ At y)
+  unfolding seek
+  seek-some zero c x e h g = absurd (omega arith)
+  seek-some (suc k) c x e h g = go (P c) refl (λ l. seek-some k (suc c) x e l (omega arith))
+    where
+      go : (b : Bool) → P c ≡ b → (suc c ≤ x → (y : ℕ) × (seek k (suc c) P ≡ At y)) → (y : ℕ) × (choose b (λ _. At c) (λ _. seek k (suc c) P) ≡ At y)
+      go true f rec = (c, refl)
+      go false f rec = rec (other (eqb c x) refl)
+        where
+          other : (b : Bool) → eqb c x ≡ b → suc c ≤ x
+          other true z = let w = eqb-true c x z in absurd (let v : true ≡ false = sym e ∙ ap P (sym w) ∙ f in let o : _≡_ {A = ℕ} 0 1 = cc in omega arith)
+          other false z = omega (arith, eqb-false c x z)

@@ -5,11 +5,15 @@
 --   number-shortest    and are no longer than any that do; -least: nor are those of a lesser number
 --   number-some, -few  there are 2 to 5; number-long: one more than `fewest`
 --   number-bytes       they are bytes
+--   same-front         lists whose fronts are as long are the same in front and after it
 --   number-cut         bytes that begin with a number begin with one only
 --   number-at          bytes that write n, at a place, are found there
 --   at-number          what is found is written there
 --   at-within          its bounds; found-bounds: the same for a caller of `number_at`
+--   number-fault       nothing is found exactly when the number passes the end or its N is out of bounds
+--   part-fault         a number that fills a part of a list fails as it does in its place
 use mathlib.Core.Path.{_≡_, refl, sym, ap, _∙_}
+use mathlib.Core.Logic.{_↔_}
 use mathlib.Core.List.{List, [], _∷_, _++_, head-eq-of-cons-eq, tail-eq-of-cons-eq}
 use mathlib.Core.Bool.{Bool, true, false}
 use Prim.Native.Nat.{ℕ, suc, _+_, _-_, _^_, _<_, _≤_}
@@ -17,12 +21,12 @@ use native.Mathlib.Omega.{arith}
 use lib.ListN.{length, drop}
 use lib.Seq.{slice, slice-cons, length-slice, drop-drop}
 use lib.Dec.{ltb, leb}
-use borrow.Author.Tests.{ltb-false, leb-false, le-ltb, lt-leb}
+use borrow.Author.Tests.{ltb-true, ltb-false, leb-true, leb-false, lt-ltb, le-ltb, lt-leb, le-leb}
 use Rattle.terms.specs.Checks.{choose}
 use Rattle.numbers.specs.declared.Found.{Found}
 use Rattle.numbers.specs.declared.Found.the-variants.{Fault, Value}
 use Rattle.numbers.specs.Bytes.{Bytes, byte, little}
-use Rattle.numbers.specs.Number.{Number, numberAt, fewest, numberOf}
+use Rattle.numbers.specs.Number.{Number, numberAt, no-width, cut-off, width-zero, too-wide, NumberFault, number-past, width-off, fewest, numberOf}
 use Rattle.numbers.specs.Met.{ValueMet, Within, NumberMet}
 use Rattle.numbers.proofs.Places.{first, slice-is, bytes-slice, bytes-at}
 use Rattle.numbers.proofs.Little.{limit, limit-up, fewest-until, until-bytes, until-few, until-some, until-says, until-short, little-below}
@@ -82,7 +86,7 @@ number-few n = omega (arith, number-long n, ap length (fewest-until 4 n), until-
 pub number-bytes : {n : ℕ} {b : List ℕ} → Number n b → Bytes b
 number-bytes t = rw (t .whole) (omega (arith, t .most), t .bytes)
 
-same-front : (a b c d : List ℕ) → length a ≡ length b → a ++ c ≡ b ++ d → (a ≡ b) × (c ≡ d)
+pub same-front : (a b c d : List ℕ) → length a ≡ length b → a ++ c ≡ b ++ d → (a ≡ b) × (c ≡ d)
 same-front [] [] c d h e = (refl, e)
 same-front [] (y ∷ b) c d h e = absurd (omega arith)
 same-front (x ∷ a) [] c d h e = absurd (omega arith)
@@ -207,3 +211,55 @@ module _ (s : List ℕ) (p e : ℕ) (r : Found) (n w : ℕ) (m : NumberMet s p e
   found-within = met .within
 
 pub ruleset found-bounds = (found-small, found-least, found-most, found-within)
+
+pub number-fault : (s : List ℕ) (p e k : ℕ) → (numberAt s p e ≡ Fault k) ↔ NumberFault s p e k
+unfolding numberAt
+number-fault s p e k = (there, back)
+  where
+    stop : (t : Bool) (k' : ℕ) (f : Unit {0} → Found) → choose t (λ _. Fault k') f ≡ Fault k → (t ≡ true → k ≡ k' → NumberFault s p e k) → (t ≡ false → f tt ≡ Fault k → NumberFault s p e k) → NumberFault s p e k
+    stop true k' f e x y = x refl (cc)
+    stop false k' f e x y = y refl e
+
+    there : numberAt s p e ≡ Fault k → NumberFault s p e k
+    there x =
+        stop (leb e p) _ _ x (λ b i. number-past (no-width (leb-true e p b)) i) λ b₁ x₁.
+        let lt = leb-false e p b₁ in
+        stop (ltb (byte s p) 1) _ _ x₁ (λ b i. width-off (width-zero lt (none (byte s p) (ltb-true _ _ b))) i) λ b₂ x₂.
+        stop (ltb 4 (byte s p)) _ _ x₂ (λ b i. width-off (too-wide lt (ltb-true _ _ b)) i) λ b₃ x₃.
+        stop (ltb (e - (p + 1)) (byte s p)) _ _ x₃ (λ b i. number-past (cut-off lt (ltb-false _ _ b₂) (ltb-false _ _ b₃) (over (byte s p) lt (ltb-true _ _ b))) i) λ b₄ x₄.
+        absurd (let z : _≡_ {A = ℕ} 0 1 = cc in omega arith)
+      where
+        none : (n : ℕ) → n < 1 → n ≡ 0
+        none n h = omega arith
+
+        over : (n : ℕ) → p < e → e - (p + 1) < n → e < p + 1 + n
+        over n g h = omega arith
+
+    back : NumberFault s p e k → numberAt s p e ≡ Fault k
+    back (number-past (no-width h) i) = rw (le-leb e p h, i)
+    back (number-past (cut-off h g j c) i) = rw (lt-leb e p h, le-ltb (byte s p) 1 g, le-ltb 4 (byte s p) j, lt-ltb (e - (p + 1)) (byte s p) (omega arith), i)
+    back (width-off (width-zero h z) i) = rw (lt-leb e p h, z, i)
+    back (width-off (too-wide h g) i) = rw (lt-leb e p h, le-ltb (byte s p) 1 (omega arith), lt-ltb 4 (byte s p) g, i)
+
+-- the number that is due at the start of the part from p to e
+module _ (s : List ℕ) (p e : ℕ) (order : p ≤ e) (h : e ≤ length s) where
+  part-first : p < e → byte (slice p e s) 0 ≡ byte s p
+  part-first g = ap (λ (l : List ℕ). byte l 0) (slice-cons p e s 0 g h)
+
+  same-fault : (k n : ℕ) → n ≡ e - p → (p < e → byte (slice p e s) 0 ≡ byte s p) → NumberFault (slice p e s) 0 n k ↔ NumberFault s p e k
+  same-fault k n i f = (there, back)
+    where
+      there : NumberFault (slice p e s) 0 n k → NumberFault s p e k
+      there (number-past (no-width g) j) = number-past (no-width (omega arith)) j
+      there (number-past (cut-off g a b c) j) = let u = f (omega arith) in number-past (cut-off (omega arith) (omega arith) (omega arith) (omega arith)) j
+      there (width-off (width-zero g z) j) = let u = f (omega arith) in width-off (width-zero (omega arith) (sym u ∙ z)) j
+      there (width-off (too-wide g z) j) = let u = f (omega arith) in width-off (too-wide (omega arith) (omega arith)) j
+
+      back : NumberFault s p e k → NumberFault (slice p e s) 0 n k
+      back (number-past (no-width g) j) = number-past (no-width (omega arith)) j
+      back (number-past (cut-off g a b c) j) = let u = f g in number-past (cut-off (omega arith) (omega arith) (omega arith) (omega arith)) j
+      back (width-off (width-zero g z) j) = let u = f g in width-off (width-zero (omega arith) (u ∙ z)) j
+      back (width-off (too-wide g z) j) = let u = f g in width-off (too-wide (omega arith) (omega arith)) j
+
+  pub part-fault : (k : ℕ) → NumberFault (slice p e s) 0 (length (slice p e s)) k ↔ NumberFault s p e k
+  part-fault k = same-fault k (length (slice p e s)) (length-slice p e s h) part-first

@@ -1,8 +1,9 @@
 -- Document 01, "The payload": "A non-negative number: one byte N, then N bytes. N is 1 to 4 (house); leading zeros are taken."
 --   Number n b       the bytes b write the number n
 --   numberAt s p e   the number that stands at p and has to end by e: its value and its width N, or the refusal
+--   NumberPast       the number due at p passes e; WidthOff: its N is out of bounds; NumberFault: the one or the other, with its refusal
 --   numberOf n       the shortest bytes that write n
-use Prim.Native.Nat.{ℕ, zero, suc, _+_, _-_, _/_, _%_, _≤_}
+use Prim.Native.Nat.{ℕ, zero, suc, _+_, _-_, _/_, _%_, _≤_, _<_}
 use mathlib.Core.Path.{_≡_}
 use mathlib.Core.List.{List, [], _∷_}
 use lib.ListN.{length}
@@ -31,6 +32,20 @@ numberAt s p e =
     choose (ltb numberMost (byte s p)) (λ _. Fault widthWrong) λ _.
     choose (ltb (e - (p + 1)) (byte s p)) (λ _. Fault pastEnd) λ _.
     Value (little (slice (p + 1) (p + 1 + byte s p) s)) (byte s p)
+
+-- "4: a field passes the end": no byte is left for N, or fewer than N after it
+pub data NumberPast (s : List ℕ) (p e : ℕ) : Type 0 where
+  no-width : e ≤ p → NumberPast s p e
+  cut-off : p < e → numberLeast ≤ byte s p → byte s p ≤ numberMost → e < p + 1 + byte s p → NumberPast s p e
+
+-- "5: N is 0 or above 4"
+pub data WidthOff (s : List ℕ) (p e : ℕ) : Type 0 where
+  width-zero : p < e → byte s p ≡ 0 → WidthOff s p e
+  too-wide : p < e → numberMost < byte s p → WidthOff s p e
+
+pub data NumberFault (s : List ℕ) (p e k : ℕ) : Type 0 where
+  number-past : NumberPast s p e → k ≡ pastEnd → NumberFault s p e k
+  width-off : WidthOff s p e → k ≡ widthWrong → NumberFault s p e k
 
 -- n in the fewest bytes, the least first; at least one, at most k
 unfoldable pub fewest : ℕ → ℕ → List ℕ

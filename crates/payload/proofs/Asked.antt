@@ -17,6 +17,7 @@ use Rattle.terms.specs.Limits.{payloadLeast, depthMost}
 use Rattle.terms.specs.Refusals.{pastEnd, notInBase, misfit}
 use Rattle.terms.specs.Checks.{Judged, good, refuse, need}
 use Rattle.terms.proofs.Tests.{and-left, and-right}
+use Rattle.terms.proofs.Checks.{passed, needed}
 use Rattle.numbers.specs.declared.Found.the-variants.{Value}
 use Rattle.numbers.specs.Bytes.{Bytes, byte}
 use Rattle.numbers.specs.Number.{Number, numberAt}
@@ -26,8 +27,9 @@ use Rattle.payload.specs.Tree.{Tuples}
 use Rattle.payload.specs.Writes.{Cut, Format, Sized, Tuple}
 use Rattle.payload.specs.Fits.{known, child, fresh, fits}
 use Rattle.payload.specs.Reading.{number, supported, asked, bodyAt, tupleAt, insideOf, rootAt}
-use Rattle.payload.proofs.Lying.{Lies, lies-order, cut-front, cut-rest, join, one, number-long, number-lies, Read, number-read, renumber}
-use Rattle.payload.proofs.Taken.{passed, needed, numbered}
+use Rattle.payload.specs.Lying.{Lies, Read}
+use Rattle.payload.proofs.Lying.{lies-order, cut-front, cut-rest, join, one, number-long, number-lies, number-read, renumber}
+use Rattle.payload.proofs.Taken.{numbered}
 
 module _ (d s : List ℕ) where
   pub tuple-asked : (inside : ℕ → ℕ → ℕ → ℕ → ℕ → Judged Tuples) (row i : ℕ) (seen : List ℕ) (at e l : ℕ) → tupleAt d s inside row i seen at e l ≡ asked s (known d row i) (fresh d row seen) (λ n f. fits d (child d row n) f) (λ n f q z. bodyAt d s inside n (child d row n) f at q z (l - 1)) at e l

@@ -17,7 +17,8 @@ use Rattle.payload.specs.Tree.{Scalar, null, integer, option, string, bo
 use Rattle.payload.specs.Writes.{Cut, Tuple, Holds, Writes}
 use Rattle.payload.specs.Fits.{known, child, fresh, fits, allowed, Sits, Fits}
 use Rattle.payload.specs.Reading.{Single, plain, group, numberFor, before, value, bodyAt, tupleAt, run, insideOf}
-use Rattle.payload.proofs.Lying.{Lies, lies-order, cut-front, cut-rest, lies-is, number-goes}
+use Rattle.payload.specs.Lying.{Lies}
+use Rattle.payload.proofs.Lying.{lies-order, cut-front, cut-rest, lies-is, number-goes}
 use Rattle.payload.proofs.Scalars.{scalar-complete}
 use Rattle.payload.proofs.Unique.{scalar-high, shape-low}
 use Rattle.payload.proofs.Asked.{Base, tuple-asked, asked-complete}

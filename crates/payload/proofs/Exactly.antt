@@ -4,6 +4,7 @@
 --   tree-complete                    what a tree writes is answered with that tree
 --   tree-sound                       what is answered with a tree is written by it
 --   reads-exactly                    a text is given exactly when the payload means it, within the budget and the room
+--   one-outcome                      two answers to the same call, with what each leaves in the buffer, are the same
 use mathlib.Core.Path.{_≡_, refl, sym, ap, _∙_}
 use mathlib.Core.Logic.{_↔_}
 use mathlib.Core.List.{List, [], _++_}
@@ -16,6 +17,9 @@ use lib.Dec.{ltb, eqb}
 use borrow.Author.Tests.{ltb-false, le-ltb, eqb-true, eq-eqb, not-false}
 use Rattle.terms.specs.Limits.{payloadLeast, payloadMost, textMost, depthMost}
 use Rattle.terms.specs.Checks.{choose, Judged, refused, good}
+use Rattle.terms.specs.declared.Answer.{Answer}
+use Rattle.terms.proofs.Tests.{or-left, or-right}
+use Rattle.terms.proofs.Checks.{same-place, same-left, same-thing, needed, followed}
 use Rattle.numbers.specs.Bytes.{Bytes, byte}
 use Rattle.numbers.proofs.Places.{bytes-at}
 use Rattle.dictionary.specs.Accepts.{accepts}
@@ -24,10 +28,11 @@ use Rattle.payload.specs.Header.{headerWith, headerFine}
 use Rattle.payload.specs.Writes.{Payload}
 use Rattle.payload.specs.Fits.{Fits}
 use Rattle.payload.specs.Text.{rootText, rootCount, Means}
-use Rattle.payload.specs.Reading.{rootAt, treeOf, Outcome, refusal, result, fitted, spoken, reads}
-use Rattle.payload.proofs.Lying.{Lies, cut-rest, join, part, lies-is}
-use Rattle.payload.proofs.Taken.{same-place, same-left, same-thing, needed, followed}
-use Rattle.payload.proofs.Root.{header-fine, header-cut, Rooted, root-complete, root-sound}
+use Rattle.payload.specs.Reading.{rootAt, treeOf, Outcome, refusal, result, fitted, spoken, reads, answerOf, contentsOf}
+use Rattle.payload.specs.Lying.{Lies}
+use Rattle.payload.specs.Refusing.{Passed}
+use Rattle.payload.proofs.Lying.{cut-rest, join, part, lies-is}
+use Rattle.payload.proofs.Root.{header-fine, header-cut, headed-fine, fine-headed, Rooted, root-complete, root-sound}
 
 -- a payload in the first z bytes, whatever follows
 module _ (d s : List ℕ) (z : ℕ) (t : Tuples) where
@@ -95,10 +100,10 @@ module _ (d s : List ℕ) (budget : ℕ) where
       let r = root-complete d s budget (length s) (budget - rootCount d t) t (payload-rooted d s (length s) t budget (budget - rootCount d t) (omega arith) y f a (omega arith)) in
       (payload-header d s (length s) t y, rw (r, eq-eqb (length s) (length s) refl))
 
-result-text : {t u : List ℕ} {n m : ℕ} → result t n ≡ result u m → t ≡ u
+pub result-text : {t u : List ℕ} {n m : ℕ} → result t n ≡ result u m → t ≡ u
 result-text e = cc
 
-result-count : {t u : List ℕ} {n m : ℕ} → result t n ≡ result u m → n ≡ m
+pub result-count : {t u : List ℕ} {n m : ℕ} → result t n ≡ result u m → n ≡ m
 result-count e = cc
 
 pub no-result : {k w n : ℕ} {t : List ℕ} {A : Type 0} → refusal k w ≡ result t n → A
@@ -109,25 +114,10 @@ pub by-way : (b : Bool) (k w : ℕ) (f : Unit {0} → Outcome) (t : List ℕ) (n
 by-way true k w f t n e = no-result e
 by-way false k w f t n e = (refl, e)
 
-pub or-left : (a b : Bool) → a || b ≡ false → a ≡ false
-or-left true b e = e
-or-left false b e = refl
-
-pub or-right : (a b : Bool) → a || b ≡ false → b ≡ false
-or-right true b e = absurd (let z : _≡_ {A = ℕ} 0 1 = cc in omega arith)
-or-right false b e = e
-
--- 1, 2 and 3 are passed
-pub record Passed (d s : List ℕ) : Type 0 where
-  pub accepting : accepts d ≡ true
-  pub least : payloadLeast ≤ length s
-  pub most : length s ≤ payloadMost
-  pub header : headerFine s ≡ true
-
 module _ (d s : List ℕ) (budget room : ℕ) where
   pub reads-on : Passed d s → reads d s budget room ≡ spoken d room (treeOf d s budget)
   unfolding reads
-  reads-on p = rw (p .accepting, le-ltb (length s) 7 (p .least), le-ltb 16384 (length s) (p .most), p .header)
+  reads-on p = rw (p .accepting, le-ltb (length s) 7 (p .in-table .least), le-ltb 16384 (length s) (p .in-table .most), headed-fine s (p .headed))
 
   pub reads-passed : (t : List ℕ) (n : ℕ) → reads d s budget room ≡ result t n → Passed d s
   unfolding reads
@@ -135,11 +125,11 @@ module _ (d s : List ℕ) (budget room : ℕ) where
       let a = by-way (not (accepts d)) _ _ _ t n e in
       let b = by-way (ltb (length s) 7 || ltb 16384 (length s)) _ _ _ t n (a .1) in
       let c = by-way (not (headerFine s)) _ _ _ t n (b .1) in
+      let least = ltb-false (length s) 7 (or-left _ _ (b .0)) in
       record {
         accepting = not-false _ (a .0);
-        least = ltb-false (length s) 7 (or-left _ _ (b .0));
-        most = ltb-false 16384 (length s) (or-right (ltb (length s) 7) _ (b .0));
-        header = not-false _ (c .0);
+        in-table = record { least = least; most = ltb-false 16384 (length s) (or-right (ltb (length s) 7) _ (b .0)) };
+        headed = fine-headed s least (not-false _ (c .0));
       }
 
   -- a text within the room
@@ -165,7 +155,7 @@ module _ (d s : List ℕ) (budget room : ℕ) where
   reads-sound t n hb e =
       let p = reads-passed t n e in
       let a = spoken-result (treeOf d s budget) t n refl (sym (reads-on p) ∙ e) in
-      made (a .0) (a .1) (a .2) (a .3) (tree-sound d s budget (a .0) (a .1) (a .2) hb (p .least) (p .header) (a .3 .answer))
+      made (a .0) (a .1) (a .2) (a .3) (tree-sound d s budget (a .0) (a .1) (a .2) hb (p .in-table .least) (headed-fine s (p .headed)) (a .3 .answer))
     where
       made : (z l : ℕ) (tree : Tuples) → Spoken z l tree t n → Answered d s budget z l tree → Means d s t n × (n ≤ budget) × (length t ≤ room) × (length t ≤ textMost)
       made z l tree x y = (
@@ -178,10 +168,14 @@ module _ (d s : List ℕ) (budget room : ℕ) where
   pub reads-complete : (t : List ℕ) (n : ℕ) → accepts d ≡ true → payloadLeast ≤ length s → length s ≤ payloadMost → Means d s t n → n ≤ budget → length t ≤ room → length t ≤ textMost → reads d s budget room ≡ result t n
   reads-complete t n a h g m b r x =
       let y = tree-complete d s budget (m .tree) (m .written) (m .fitting) (m .shallow) (omega (arith, m .tuples)) in
-      reads-on (record { accepting = a; least = h; most = g; header = y .0 }) ∙ ap (spoken d room) (y .1) ∙ fits-in (rootText d (m .tree)) (rootCount d (m .tree)) (m .text) (m .tuples)
+      reads-on (record { accepting = a; in-table = record { least = h; most = g }; headed = fine-headed s h (y .0) }) ∙ ap (spoken d room) (y .1) ∙ fits-in (rootText d (m .tree)) (rootCount d (m .tree)) (m .text) (m .tuples)
     where
       fits-in : (u : List ℕ) (k : ℕ) → u ≡ t → k ≡ n → fitted room textMost u k ≡ result t n
       fits-in u k i j = rw (i, j, le-ltb room (length t) r, le-ltb 65535 (length t) x)
 
   pub reads-exactly : (t : List ℕ) (n : ℕ) → accepts d ≡ true → Bytes s → payloadLeast ≤ length s → length s ≤ payloadMost → (reads d s budget room ≡ result t n) ↔ (Means d s t n × (n ≤ budget) × (length t ≤ room) × (length t ≤ textMost))
   reads-exactly t n a hb h g = (reads-sound t n hb, λ m. reads-complete t n a h g (m .0) (m .1) (m .2) (m .3))
+
+  -- the reader's contract, of which r and new are one outcome and r' and new' another
+  pub one-outcome : (old : List ℕ) (r r' : Answer) (new new' : List ℕ) → r ≡ answerOf (reads d s budget room) → new ≡ contentsOf (reads d s budget room) old → r' ≡ answerOf (reads d s budget room) → new' ≡ contentsOf (reads d s budget room) old → (r ≡ r') × (new ≡ new')
+  one-outcome old r r' new new' a b a' b' = (a ∙ sym a', b ∙ sym b')

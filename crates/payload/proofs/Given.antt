@@ -1,69 +1,42 @@
--- The reader's answer to every call, case by case, and with it when each refusal of a whole call is given.
+-- The reader's answer to every call, case by case, and with it the paper's table: when each refusal is given.
 -- Assumes nothing.
 --   Course d s budget room o    what the answer o is, and why: a case for each line of the paper's table, 4 to 12 in one, and one for acceptance
 --   reads-course                the answer to a call is o exactly when o has a course
---   Line d s budget room k w    the paper's table of refusals: when the number k is given, and with which place w
---   given                       a refusal is given exactly when its line says so; given-1, -2, -3, -13, -14: those lines written out
+--   given                       a refusal is given exactly when its line of the table says so; given-1 .. given-14: the lines written out
+--   one-line                    no two lines of the table, and no two places, are given for one call
 --   given-place                 4 to 12 stand from the header's end to the payload's
 use mathlib.Core.Path.{_≡_, refl, sym, ap, _∙_}
 use mathlib.Core.Logic.{_↔_}
-use mathlib.Core.List.{List, [], _++_}
+use mathlib.Core.List.{List}
 use mathlib.Core.Bool.{Bool, true, false, not, _||_}
-use Prim.Native.Nat.{ℕ, suc, _-_, _<_, _≤_}
+use Prim.Native.Nat.{ℕ, _-_, _<_, _≤_}
 use native.Mathlib.Omega.{arith}
-use lib.ListN.{length, take}
+use lib.ListN.{length}
 use lib.Dec.{ltb, eqb}
-use borrow.Author.Tests.{ltb-true, ltb-false, le-ltb, eqb-true, eqb-false, ne-eqb}
-use Rattle.terms.specs.Limits.{payloadLeast, payloadMost, textMost, depthMost}
-use Rattle.terms.specs.Refusals.{dictionaryWrong, lengthWrong, headerDiffers, afterRoot, noRoom}
+use borrow.Author.Tests.{ltb-true, ltb-false, le-ltb, eqb-false, ne-eqb}
+use Rattle.terms.specs.Limits.{payloadLeast, payloadMost, textMost}
+use Rattle.terms.specs.Refusals.{dictionaryWrong, lengthWrong, headerDiffers, pastEnd, widthWrong, notKnown, givenTwice, notInBase, misfit, valueWrong, tooDeep, budgetSpent, afterRoot, noRoom}
 use Rattle.terms.specs.Checks.{choose, Judged, refused, good, need, after}
-use Rattle.terms.proofs.Tests.{not-so, so-not}
-use Rattle.numbers.specs.Bytes.{Bytes, byte}
+use Rattle.terms.proofs.Tests.{or-left, or-right, not-so, true-so, so-not}
+use Rattle.numbers.specs.Bytes.{Bytes}
 use Rattle.dictionary.specs.Accepts.{accepts}
-use Rattle.payload.specs.Tree.{Tuples, depth}
-use Rattle.payload.specs.Header.{headerWith, headerFine}
-use Rattle.payload.specs.Writes.{Payload}
-use Rattle.payload.specs.Fits.{Fits}
+use Rattle.payload.specs.Tree.{Tuples}
+use Rattle.payload.specs.Header.{headerFine}
 use Rattle.payload.specs.Text.{rootText, rootCount, Means}
 use Rattle.payload.specs.Reading.{rootAt, treeOf, Outcome, refusal, result, fitted, spoken, reads}
-use Rattle.payload.proofs.Root.{header-fine, header-cut, root-complete, root-sound}
-use Rattle.payload.proofs.Exactly.{payload-rooted, rooted-payload, tree-sound, tree-complete, Passed, reads-on, reads-complete, no-result, or-left, or-right}
-use Rattle.payload.proofs.First.{RootFault, root-first}
+use Rattle.payload.specs.Refusing.{InTable, Headed, Passed, Front, Roomy, Overlong, PastEnd, WidthWrong, NotKnown, GivenTwice, NotInBase, Misfit, ValueWrong, TooDeep, BudgetSpent, Somewhere, Fails, Line}
+use Rattle.payload.proofs.Root.{headed-fine, fine-headed, root-complete, root-sound}
+use Rattle.payload.proofs.Exactly.{payload-rooted, rooted-payload, tree-sound, tree-complete, reads-on, reads-complete, no-result}
+use Rattle.payload.proofs.Refused.{step}
+use Rattle.payload.proofs.First.{root-first}
 use Rattle.payload.proofs.Placed.{Late, Placed, placed-refused, root-placed}
-
--- a length within the table
-pub record Sized (s : List ℕ) : Type 0 where
-  pub least : payloadLeast ≤ length s
-  pub most : length s ≤ payloadMost
-
-abbrev pub Headed : List ℕ → Type 0
-Headed s = (f : ℕ) × (g : ℕ) × (body : List ℕ) × (s ≡ headerWith f g ++ body)
-
-pub headed-fine : (s : List ℕ) → Headed s → headerFine s ≡ true
-headed-fine s h = ap headerFine (h .3) ∙ header-fine (h .0) (h .1) (h .2)
-
-pub fine-headed : (s : List ℕ) → payloadLeast ≤ length s → headerFine s ≡ true → Headed s
-fine-headed s h e = (byte s 4, byte s 5, _, header-cut s h e)
-
--- a text within the lent buffer and the table
-pub record Roomy (room : ℕ) (t : List ℕ) : Type 0 where
-  pub small : length t ≤ room
-  pub few : length t ≤ textMost
-
--- the first z bytes are a payload that fits, within the depth and the budget
-pub record Front (d s : List ℕ) (budget z : ℕ) : Type 0 where
-  pub tree : Tuples
-  pub written : Payload tree (take z s)
-  pub fitting : Fits d tree 0 0 []
-  pub shallow : suc (depth tree) ≤ depthMost
-  pub enough : rootCount d tree ≤ budget
 
 module _ (d s : List ℕ) (budget room : ℕ) where
   pub data Course (o : Outcome) : Type 0 where
     unaccepted : accepts d ≡ false → o ≡ refusal dictionaryWrong 0 → Course o
-    unsized : accepts d ≡ true → (Sized s → ⊥) → o ≡ refusal lengthWrong 0 → Course o
-    unheaded : accepts d ≡ true → Sized s → (Headed s → ⊥) → o ≡ refusal headerDiffers 0 → Course o
-    faulty : Passed d s → (k w : ℕ) → Late payloadLeast (length s) k w → RootFault d s budget k w → o ≡ refusal k w → Course o
+    unsized : accepts d ≡ true → (InTable s → ⊥) → o ≡ refusal lengthWrong 0 → Course o
+    unheaded : accepts d ≡ true → InTable s → (Headed s → ⊥) → o ≡ refusal headerDiffers 0 → Course o
+    faulty : Passed d s → (k w : ℕ) → Late payloadLeast (length s) k w → Somewhere d s budget (Fails d s k) w → o ≡ refusal k w → Course o
     followed-by : Passed d s → (z : ℕ) → z < length s → Front d s budget z → o ≡ refusal afterRoot z → Course o
     too-long : Passed d s → (t : List ℕ) (n : ℕ) → Means d s t n → n ≤ budget → (Roomy room t → ⊥) → o ≡ refusal noRoom 0 → Course o
     right : Passed d s → (t : List ℕ) (n : ℕ) → Means d s t n → n ≤ budget → Roomy room t → o ≡ result t n → Course o
@@ -71,7 +44,7 @@ module _ (d s : List ℕ) (budget room : ℕ) where
   module _ (hb : Bytes s) where
     spoken-course : Passed d s → (z l : ℕ) (t : Tuples) → treeOf d s budget ≡ good z l t → Course (spoken d room (good z l t))
     spoken-course p z l t e =
-        let y = tree-sound d s budget z l t hb (p .least) (p .header) e in
+        let y = tree-sound d s budget z l t hb (p .in-table .least) (headed-fine s (p .headed)) e in
         let u = rootText d t in
         let m : Means d s u (rootCount d t) = record { tree = t; written = y .written; fitting = y .fitting; shallow = y .shallow; text = refl; tuples = refl } in
         go u m (ltb room (length u)) (ltb 65535 (length u)) refl refl (omega (arith, y .spent))
@@ -83,28 +56,28 @@ module _ (d s : List ℕ) (budget room : ℕ) where
 
     tree-course : Passed d s → Course (spoken d room (treeOf d s budget))
     unfolding treeOf Placed
-    tree-course p = go (rootAt d s budget) refl (root-placed d s budget (p .least))
+    tree-course p = go (rootAt d s budget) refl (root-placed d s budget (p .in-table .least))
       where
         ends : (z l : ℕ) (t : Tuples) → rootAt d s budget ≡ good z l t → z ≤ length s → (b : Bool) → eqb z (length s) ≡ b → treeOf d s budget ≡ need b afterRoot z (λ _. good z l t) → Course (spoken d room (need b afterRoot z (λ _. good z l t)))
         ends z l t e h true f g = spoken-course p z l t g
         ends z l t e h false f g =
             let y = root-sound d s budget z l t hb e in
             followed-by p z (below z (eqb-false z (length s) f) h)
-            (record { tree = t; written = rooted-payload d s z t budget l hb (p .least) (p .header) y; fitting = y .fitting; shallow = y .shallow; enough = omega (arith, y .spent) }) refl
+            (record { text = rootText d t; tuples = rootCount d t; means = record { tree = t; written = rooted-payload d s z t budget l hb (p .in-table .least) (headed-fine s (p .headed)) y; fitting = y .fitting; shallow = y .shallow; text = refl; tuples = refl }; enough = omega (arith, y .spent) }) refl
           where
             below : (z : ℕ) → (z ≡ length s → ⊥) → z ≤ length s → z < length s
             below z a b = omega arith
 
         go : (r : Judged Tuples) → rootAt d s budget ≡ r → Placed payloadLeast (length s) r → Course (spoken d room (after r λ z l t. need (eqb z (length s)) afterRoot z λ _. good z l t))
-        go (refused k w) e h = faulty p k w h (root-first d s hb k w budget .0 e) refl
+        go (refused k w) e h = faulty p k w h (root-first d s budget hb k w .0 e) refl
         go (good z l t) e h = ends z l t e (h .1) (eqb z (length s)) refl (rw e)
 
     pub course : Course (reads d s budget room)
     unfolding reads
     course = first (accepts d) refl
       where
-        third : accepts d ≡ true → Sized s → (b : Bool) → headerFine s ≡ b → Course (choose (not b) (λ _. refusal headerDiffers 0) (λ _. spoken d room (treeOf d s budget)))
-        third a h true e = tree-course (record { accepting = a; least = h .least; most = h .most; header = e })
+        third : accepts d ≡ true → InTable s → (b : Bool) → headerFine s ≡ b → Course (choose (not b) (λ _. refusal headerDiffers 0) (λ _. spoken d room (treeOf d s budget)))
+        third a h true e = tree-course (record { accepting = a; in-table = h; headed = fine-headed s (h .least) e })
         third a h false e = unheaded a h (λ g. so-not (headerFine s) e (headed-fine s g)) refl
 
         second : accepts d ≡ true → (a b : Bool) → ltb (length s) 7 ≡ a → ltb 16384 (length s) ≡ b → Course (choose (a || b) (λ _. refusal lengthWrong 0) λ _. choose (not (headerFine s)) (λ _. refusal headerDiffers 0) λ _. spoken d room (treeOf d s budget))
@@ -116,23 +89,20 @@ module _ (d s : List ℕ) (budget room : ℕ) where
         first true e = second e (ltb (length s) 7) (ltb 16384 (length s)) refl refl
         first false e = unaccepted e refl
 
-true-so : (a : Bool) → (a ≡ false → ⊥) → a ≡ true
-true-so true f = refl
-true-so false f = absurd (f refl)
-
 -- bytes that follow a payload are refused
 front-refused : (d s : List ℕ) (budget z : ℕ) → Front d s budget z → z < length s → treeOf d s budget ≡ refused afterRoot z
 unfolding treeOf
 front-refused d s budget z x h =
-    let l = budget - rootCount d (x .tree) in
-    let r = root-complete d s budget z l (x .tree) (payload-rooted d s z (x .tree) budget l (omega arith) (x .written) (x .fitting) (x .shallow) (omega (arith, x .enough))) in
+    let m = x .means in
+    let l = budget - rootCount d (m .tree) in
+    let r = root-complete d s budget z l (m .tree) (payload-rooted d s z (m .tree) budget l (omega arith) (m .written) (m .fitting) (m .shallow) (omega (arith, x .enough, m .tuples))) in
     rw (r, ne-eqb z (length s) (λ e. omega arith))
 
-fault-refused : (d s : List ℕ) (budget k w : ℕ) → Bytes s → RootFault d s budget k w → treeOf d s budget ≡ refused k w
+fault-refused : (d s : List ℕ) (budget k w : ℕ) → Bytes s → Somewhere d s budget (Fails d s k) w → treeOf d s budget ≡ refused k w
 unfolding treeOf
-fault-refused d s budget k w hb x = rw (root-first d s hb k w budget .1 x)
+fault-refused d s budget k w hb x = rw (root-first d s budget hb k w .1 x)
 
-outside : (s : List ℕ) → (Sized s → ⊥) → ltb (length s) 7 || ltb 16384 (length s) ≡ true
+outside : (s : List ℕ) → (InTable s → ⊥) → ltb (length s) 7 || ltb 16384 (length s) ≡ true
 outside s h = true-so _ λ e. h (record { least = ltb-false (length s) 7 (or-left _ _ e); most = ltb-false 16384 (length s) (or-right (ltb (length s) 7) _ e) })
 
 overfull : (room : ℕ) (t : List ℕ) → (Roomy room t → ⊥) → ltb room (length t) || ltb 65535 (length t) ≡ true
@@ -152,18 +122,10 @@ answered d s budget room hb o (too-long p t n m b r f) =
   where
     over : (u : List ℕ) (k : ℕ) → u ≡ t → fitted room textMost u k ≡ refusal noRoom 0
     over u k i = rw (i, overfull room t r)
-answered d s budget room hb o (right p t n m b r f) = reads-complete d s budget room t n (p .accepting) (p .least) (p .most) m b (r .small) (r .few) ∙ sym f
+answered d s budget room hb o (right p t n m b r f) = reads-complete d s budget room t n (p .accepting) (p .in-table .least) (p .in-table .most) m b (r .small) (r .few) ∙ sym f
 
 pub reads-course : (d s : List ℕ) (budget room : ℕ) → Bytes s → (o : Outcome) → (reads d s budget room ≡ o) ↔ Course d s budget room o
 reads-course d s budget room hb o = (λ e. rw e at (course d s budget room hb), answered d s budget room hb o)
-
--- all else right, and a text that is too long
-pub record Overlong (d s : List ℕ) (budget room : ℕ) : Type 0 where
-  pub text : List ℕ
-  pub tuples : ℕ
-  pub means : Means d s text tuples
-  pub enough : tuples ≤ budget
-  pub too-long : Roomy room text → ⊥
 
 -- one answer, one number and place
 clash : {o : Outcome} {k w k' w' : ℕ} → o ≡ refusal k w → o ≡ refusal k' w' → k ≡ k'
@@ -172,19 +134,9 @@ clash e f = cc
 same-place : {o : Outcome} {k w k' w' : ℕ} → o ≡ refusal k w → o ≡ refusal k' w' → w ≡ w'
 same-place e f = cc
 
--- the paper's table, "given exactly when" and "place"
-unfoldable pub Line : List ℕ → List ℕ → ℕ → ℕ → ℕ → ℕ → Type 0
-Line d s budget room k w =
-    choose (eqb k dictionaryWrong) (λ _. (accepts d ≡ false) × (w ≡ 0)) λ _.
-    choose (eqb k lengthWrong) (λ _. (accepts d ≡ true) × (Sized s → ⊥) × (w ≡ 0)) λ _.
-    choose (eqb k headerDiffers) (λ _. (accepts d ≡ true) × Sized s × (Headed s → ⊥) × (w ≡ 0)) λ _.
-    choose (eqb k afterRoot) (λ _. Passed d s × (w < length s) × Front d s budget w) λ _.
-    choose (eqb k noRoom) (λ _. Passed d s × Overlong d s budget room × (w ≡ 0)) λ _.
-    Passed d s × RootFault d s budget k w
-
 module _ (d s : List ℕ) (budget room : ℕ) where
   -- which numbers a fault can have
-  late-line : (k w lo hi : ℕ) → Late lo hi k w → Passed d s → RootFault d s budget k w → Line d s budget room k w
+  late-line : (k w lo hi : ℕ) → Late lo hi k w → Passed d s → Somewhere d s budget (Fails d s k) w → Line d s budget room k w
   unfolding Line
   late-line k w lo hi l p x =
       rw (ne-eqb k 1 (λ e. omega (arith, l .least)), ne-eqb k 2 (λ e. omega (arith, l .least)), ne-eqb k 3 (λ e. omega (arith, l .least)), ne-eqb k 13 (λ e. omega (arith, l .most)), ne-eqb k 14 (λ e. omega (arith, l .most))) (p, x)
@@ -205,32 +157,27 @@ module _ (d s : List ℕ) (budget room : ℕ) where
       go (too-long p t n m b r f) = moved 14 0 f (p, record { text = t; tuples = n; means = m; enough = b; too-long = r }, refl)
       go (right p t n m b r f) = no-result (sym e ∙ f)
 
-  -- one line after another
-  step : (k j w : ℕ) {R : Type 0} (A : Type 0) (B : Unit {0} → Type 0) → choose (eqb k j) (λ _. A) B → (k ≡ j → A → R) → (B tt → R) → R
-  step k j w {R} A B x f g = go (eqb k j) refl x
-    where
-      go : (t : Bool) → eqb k j ≡ t → choose t (λ _. A) B → R
-      go true e x = f (eqb-true k j e) x
-      go false e x = g x
-
   line-course : (k w : ℕ) → Line d s budget room k w → Bytes s → Course d s budget room (refusal k w)
   unfolding Line
   line-course k w x hb =
-      step k 1 w _ _ x (λ e h. unaccepted (h .0) (at e (h .1))) λ x.
-      step k 2 w _ _ x (λ e h. unsized (h .0) (h .1) (at e (h .2))) λ x.
-      step k 3 w _ _ x (λ e h. unheaded (h .0) (h .1) (h .2) (at e (h .3))) λ x.
-      step k 13 w _ _ x (λ e h. followed-by (h .0) w (h .1) (h .2) (at e refl)) λ x.
-      step k 14 w _ _ x (λ e h. too-long (h .0) (h .1 .text) (h .1 .tuples) (h .1 .means) (h .1 .enough) (h .1 .too-long) (at e (h .2))) λ x.
+      step k 1 _ _ x (λ e h. unaccepted (h .0) (at e (h .1))) λ x.
+      step k 2 _ _ x (λ e h. unsized (h .0) (h .1) (at e (h .2))) λ x.
+      step k 3 _ _ x (λ e h. unheaded (h .0) (h .1) (h .2) (at e (h .3))) λ x.
+      step k 13 _ _ x (λ e h. followed-by (h .0) w (h .1) (h .2) (at e refl)) λ x.
+      step k 14 _ _ x (λ e h. too-long (h .0) (h .1 .text) (h .1 .tuples) (h .1 .means) (h .1 .enough) (h .1 .too-long) (at e (h .2))) λ x.
       faulty (x .0) k w (late (x .0) (x .1)) (x .1) refl
     where
       at : {j v : ℕ} → k ≡ j → w ≡ v → refusal k w ≡ refusal j v
       at e f = rw (e, f)
 
-      late : Passed d s → RootFault d s budget k w → Late payloadLeast (length s) k w
-      late p x = placed-refused 7 (length s) k w (rootAt d s budget) (root-placed d s budget (p .least)) (root-first d s hb k w budget .1 x)
+      late : Passed d s → Somewhere d s budget (Fails d s k) w → Late payloadLeast (length s) k w
+      late p x = placed-refused 7 (length s) k w (rootAt d s budget) (root-placed d s budget (p .in-table .least)) (root-first d s budget hb k w .1 x)
 
   pub given : Bytes s → (k w : ℕ) → (reads d s budget room ≡ refusal k w) ↔ Line d s budget room k w
   given hb k w = (λ e. course-line (reads d s budget room) k w e (course d s budget room hb), λ x. answered d s budget room hb (refusal k w) (line-course k w x hb))
+
+  pub one-line : Bytes s → (k w k' w' : ℕ) → Line d s budget room k w → Line d s budget room k' w' → (k ≡ k') × (w ≡ w')
+  one-line hb k w k' w' x y = let e = given hb k w .1 x in let f = given hb k' w' .1 y in (clash e f, same-place e f)
 
   -- where a tuple's faults stand
   pub given-place : Bytes s → (k w : ℕ) → 4 ≤ k → k ≤ 12 → reads d s budget room ≡ refusal k w → (payloadLeast ≤ w) × (w ≤ length s)
@@ -245,19 +192,55 @@ module _ (d s : List ℕ) (budget room : ℕ) where
       go o (too-long p t n m b r f) e = absurd (omega (arith, clash e f))
       go o (right p t n m b r f) e = no-result (sym e ∙ f)
 
-  -- the lines of the table that speak of the whole call
+  -- the table, a line each
   module _ (hb : Bytes s) (w : ℕ) where
     pub given-1 : (reads d s budget room ≡ refusal dictionaryWrong w) ↔ ((accepts d ≡ false) × (w ≡ 0))
     unfolding Line
     given-1 = given hb dictionaryWrong w
 
-    pub given-2 : (reads d s budget room ≡ refusal lengthWrong w) ↔ ((accepts d ≡ true) × (Sized s → ⊥) × (w ≡ 0))
+    pub given-2 : (reads d s budget room ≡ refusal lengthWrong w) ↔ ((accepts d ≡ true) × (InTable s → ⊥) × (w ≡ 0))
     unfolding Line
     given-2 = given hb lengthWrong w
 
-    pub given-3 : (reads d s budget room ≡ refusal headerDiffers w) ↔ ((accepts d ≡ true) × Sized s × (Headed s → ⊥) × (w ≡ 0))
+    pub given-3 : (reads d s budget room ≡ refusal headerDiffers w) ↔ ((accepts d ≡ true) × InTable s × (Headed s → ⊥) × (w ≡ 0))
     unfolding Line
     given-3 = given hb headerDiffers w
+
+    pub given-4 : (reads d s budget room ≡ refusal pastEnd w) ↔ (Passed d s × Somewhere d s budget (PastEnd s) w)
+    unfolding Line Fails
+    given-4 = given hb pastEnd w
+
+    pub given-5 : (reads d s budget room ≡ refusal widthWrong w) ↔ (Passed d s × Somewhere d s budget (WidthWrong s) w)
+    unfolding Line Fails
+    given-5 = given hb widthWrong w
+
+    pub given-6 : (reads d s budget room ≡ refusal notKnown w) ↔ (Passed d s × Somewhere d s budget (NotKnown s) w)
+    unfolding Line Fails
+    given-6 = given hb notKnown w
+
+    pub given-7 : (reads d s budget room ≡ refusal givenTwice w) ↔ (Passed d s × Somewhere d s budget (GivenTwice s) w)
+    unfolding Line Fails
+    given-7 = given hb givenTwice w
+
+    pub given-8 : (reads d s budget room ≡ refusal notInBase w) ↔ (Passed d s × Somewhere d s budget (NotInBase s) w)
+    unfolding Line Fails
+    given-8 = given hb notInBase w
+
+    pub given-9 : (reads d s budget room ≡ refusal misfit w) ↔ (Passed d s × Somewhere d s budget (Misfit s) w)
+    unfolding Line Fails
+    given-9 = given hb misfit w
+
+    pub given-10 : (reads d s budget room ≡ refusal valueWrong w) ↔ (Passed d s × Somewhere d s budget (ValueWrong d s) w)
+    unfolding Line Fails
+    given-10 = given hb valueWrong w
+
+    pub given-11 : (reads d s budget room ≡ refusal tooDeep w) ↔ (Passed d s × Somewhere d s budget (TooDeep s) w)
+    unfolding Line Fails
+    given-11 = given hb tooDeep w
+
+    pub given-12 : (reads d s budget room ≡ refusal budgetSpent w) ↔ (Passed d s × Somewhere d s budget BudgetSpent w)
+    unfolding Line Fails
+    given-12 = given hb budgetSpent w
 
     pub given-13 : (reads d s budget room ≡ refusal afterRoot w) ↔ (Passed d s × (w < length s) × Front d s budget w)
     unfolding Line

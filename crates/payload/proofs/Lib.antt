@@ -11,7 +11,9 @@ pub mod Sound
 pub mod Root
 pub mod Exactly
 pub mod Placed
+pub mod Wrongs
 pub mod Faults
+pub mod Refused
 pub mod First
 pub mod Given
 pub mod Longest

@@ -1,6 +1,6 @@
--- Bytes that lie in a list from one place to another, and a number that lies there: all that is known of places.
+-- Laws of bytes that lie in a list from one place to another, and of a number that lies there: all that is known of places.
 -- Assumes nothing.
---   Lies s b p q          the bytes b are those of s from p to q
+--   drop-past             what follows what lies there
 --   cut-front, cut-rest   the two parts of what lies there; join: back
 --   part, lies-is         the slice of two places lies there, and nothing else does
 --   number-lies           a number that lies there is found; number-goes: and what follows goes on with it
@@ -19,11 +19,7 @@ use Rattle.numbers.specs.Number.{Number, numberAt}
 use Rattle.numbers.proofs.Places.{slice-is, slice-lies}
 use Rattle.numbers.proofs.Numbers.{number-at, at-number, Stands, stands}
 use Rattle.payload.specs.Reading.{number}
-
-pub record Lies (s b : List ℕ) (p q : ℕ) : Type 0 where
-  pub start : p ≤ length s
-  pub stands : drop p s ≡ b ++ drop q s
-  pub ends : q ≡ p + length b
+use Rattle.payload.specs.Lying.{Lies, Read}
 
 pub lies-order : {s b : List ℕ} {p q : ℕ} → Lies s b p q → p ≤ q
 lies-order y = omega (arith, y .ends)
@@ -31,15 +27,15 @@ lies-order y = omega (arith, y .ends)
 pub lies-end : {s b : List ℕ} {p q : ℕ} → Lies s b p q → q ≤ length s
 lies-end {s} {b} {p} {q} y = omega (arith, y .start, y .ends, ap length (y .stands), length-drop p s, length-drop q s, length-append b (drop q s))
 
-past : (s a r : List ℕ) (p : ℕ) → drop p s ≡ a ++ r → drop (p + length a) s ≡ r
-past s a r p e = sym (drop-drop (length a) p s) ∙ ap (drop (length a)) e ∙ drop-append-seam a r
+pub drop-past : (s a r : List ℕ) (p : ℕ) → drop p s ≡ a ++ r → drop (p + length a) s ≡ r
+drop-past s a r p e = sym (drop-drop (length a) p s) ∙ ap (drop (length a)) e ∙ drop-append-seam a r
 
 module _ {s : List ℕ} {p r : ℕ} (a c b : List ℕ) (e : b ≡ a ++ c) (y : Lies s b p r) where
   spread : drop p s ≡ a ++ (c ++ drop r s)
   spread = y .stands ∙ ap (λ (x : List ℕ). x ++ drop r s) e ∙ append-assoc a c (drop r s)
 
   after-a : drop (p + length a) s ≡ c ++ drop r s
-  after-a = past s a (c ++ drop r s) p spread
+  after-a = drop-past s a (c ++ drop r s) p spread
 
   pub cut-front : Lies s a p (p + length a)
   cut-front = record { start = y .start; stands = spread ∙ ap (λ (x : List ℕ). a ++ x) (sym after-a); ends = refl }
@@ -86,13 +82,6 @@ module _ (s b : List ℕ) (p q e n : ℕ) (y : Lies s b p q) (m : Number n b) (h
   number-goes at go =
       let k : p + 1 + (length b - 1) ≡ q = omega (arith, y .ends, number-long m) in
       ap (λ (f : Found). number f at p go) number-lies ∙ ap (go n) k
-
-pub record Read (s : List ℕ) (p e n q : ℕ) : Type 0 where
-  pub bytes : List ℕ
-  pub lies : Lies s bytes p q
-  pub writes : Number n bytes
-  pub within : q ≤ e
-  pub further : p < q
 
 pub number-read : (s : List ℕ) (p e n w : ℕ) → Bytes s → e ≤ length s → numberAt s p e ≡ Value n w → Read s p e n (p + 1 + w)
 number-read s p e n w hb he x = made (stands s p e n w x)

@@ -1,6 +1,6 @@
 -- The root and the header: a payload is accepted exactly where its tree fits, lies within the depth and within the budget.
 -- Assumes nothing.
---   header-fine, header-cut   the header test, both ways
+--   header-fine, header-cut   the header test, both ways; headed-fine, fine-headed: whatever follows it
 --   root-complete, -sound     the root's tuple, whatever follows it
 --   tree-complete             what a tree writes is answered with that tree
 --   tree-sound                what is answered with a tree is written by it
@@ -26,7 +26,9 @@ use Rattle.payload.specs.Writes.{Cut, Tuple, Writes}
 use Rattle.payload.specs.Fits.{Fits}
 use Rattle.payload.specs.Text.{rootCount}
 use Rattle.payload.specs.Reading.{number, insideOf, rootAt}
-use Rattle.payload.proofs.Lying.{Lies, lies-end}
+use Rattle.payload.specs.Lying.{Lies}
+use Rattle.payload.specs.Refusing.{Headed}
+use Rattle.payload.proofs.Lying.{lies-end}
 use Rattle.payload.proofs.Asked.{Shell, Asks, root-asked, asked-complete, asked-sound}
 use Rattle.payload.proofs.Complete.{shape-base, value-complete, run-complete}
 use Rattle.payload.proofs.Sound.{Inside, inside-sound}
@@ -43,6 +45,12 @@ header-cut s h e =
     let t : drop 4 s ≡ byte s 4 ∷ byte s 5 ∷ 0 ∷ drop 7 s
     = drop-cons s 4 0 (omega arith) ∙ ap (λ (l : List ℕ). byte s 4 ∷ l) (drop-cons s 5 0 (omega arith) ∙ ap (λ (l : List ℕ). byte s 5 ∷ l) (drop-cons s 6 0 (omega arith) ∙ ap (λ (b : ℕ). b ∷ drop 7 s) c)) in
     sym (take-append-drop 4 s) ∙ ap (λ (l : List ℕ). l ++ drop 4 s) v ∙ ap (λ (l : List ℕ). versionBytes ++ l) t
+
+pub headed-fine : (s : List ℕ) → Headed s → headerFine s ≡ true
+headed-fine s h = ap headerFine (h .3) ∙ header-fine (h .0) (h .1) (h .2)
+
+pub fine-headed : (s : List ℕ) → payloadLeast ≤ length s → headerFine s ≡ true → Headed s
+fine-headed s h e = (byte s 4, byte s 5, _, header-cut s h e)
 
 module _ (d s : List ℕ) where
   -- a root that lies behind the header, whatever follows it

@@ -92,7 +92,7 @@ whenever : (t : Bool) (y x : Scalar) → when t (λ _. y) ≡ worth x → (t ≡
 whenever true y x e = (refl, worth-is e)
 whenever false y x e = never e
 
-empty : (v : List ℕ) → length v ≡ 0 → v ≡ []
+pub empty : (v : List ℕ) → length v ≡ 0 → v ≡ []
 empty [] e = refl
 empty (x ∷ v) e = absurd (omega arith)
 
@@ -109,7 +109,7 @@ ended v h e =
     let k : length v ≡ suc (length v - 1) = omega arith in
     sym (take-length v) ∙ ap (λ (n : ℕ). take n v) k ∙ take-suc v (length v - 1) 0 (omega arith) ∙ ap (λ (b : ℕ). take (length v - 1) v ++ (b ∷ [])) e
 
-last-form : (f : ℕ) → 2 ≤ f → f ≤ 7 → (f ≡ 6 → ⊥) → (f ≡ 2 → ⊥) → (f ≡ 3 → ⊥) → (f ≡ 4 → ⊥) → (f ≡ 5 → ⊥) → f ≡ 7
+pub last-form : (f : ℕ) → 2 ≤ f → f ≤ 7 → (f ≡ 6 → ⊥) → (f ≡ 2 → ⊥) → (f ≡ 3 → ⊥) → (f ≡ 4 → ⊥) → (f ≡ 5 → ⊥) → f ≡ 7
 last-form f low high r a b c k = omega arith
 
 module _ (d : List ℕ) (row : ℕ) (v : List ℕ) (x : Scalar) where

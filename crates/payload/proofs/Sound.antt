@@ -13,6 +13,7 @@ use lib.Seq.{slice}
 use lib.Dec.{ltb, eqb}
 use borrow.Author.Tests.{ltb-true, ltb-false, eqb-true}
 use Rattle.terms.specs.Checks.{choose, Judged, good, after}
+use Rattle.terms.proofs.Checks.{never, same-place, same-left, same-thing, needed, followed}
 use Rattle.numbers.specs.Bytes.{Bytes}
 use Rattle.numbers.specs.Number.{Number, numberAt}
 use Rattle.numbers.proofs.Places.{bytes-slice}
@@ -21,8 +22,10 @@ use Rattle.payload.specs.Writes.{Cut, Tuple, Holds, Writes}
 use Rattle.payload.specs.Fits.{known, child, fresh, fits, allowed, Sits, Fits}
 use Rattle.payload.specs.Values.{scalarValue}
 use Rattle.payload.specs.Reading.{Single, plain, group, numberFor, before, number, value, shapeOf, bodyAt, tupleAt, run, insideOf}
-use Rattle.payload.proofs.Lying.{Lies, join, recast, part, Read, number-read, renumber}
-use Rattle.payload.proofs.Taken.{never, same-place, same-left, same-thing, needed, followed, numbered, valued}
+use Rattle.payload.specs.Lying.{Lies, Read}
+use Rattle.payload.specs.Refusing.{Many}
+use Rattle.payload.proofs.Lying.{join, recast, part, number-read, renumber}
+use Rattle.payload.proofs.Taken.{numbered, valued}
 use Rattle.payload.proofs.Scalars.{Stated, scalar-sound}
 use Rattle.payload.proofs.Asked.{Shell, tuple-asked, asked-sound}
 
@@ -48,7 +51,7 @@ unfolding count
 count-before (plain n x) r = omega arith
 count-before (group n g kids) r = omega arith
 
-depth-before : (x : Single) (r : Tuples) → depth (before x r) ≡ max (depthOne x) (depth r)
+pub depth-before : (x : Single) (r : Tuples) → depth (before x r) ≡ max (depthOne x) (depth r)
 unfolding depth
 depth-before (plain n x) r = omega arith
 depth-before (group n g kids) r = refl
@@ -63,7 +66,7 @@ unfolding Writes
 writes-before (plain n x) r a c w v = record { front = a; back = c; whole = refl; here = w; rest = v }
 writes-before (group n g kids) r a c w v = record { front = a; back = c; whole = refl; here = w; rest = v }
 
-fits-before : (d : List ℕ) (x : Single) (r : Tuples) (row i : ℕ) (seen : List ℕ) → FitsOne d x row i seen → Fits d r row (suc i) (numberFor x ∷ seen) → Fits d (before x r) row i seen
+pub fits-before : (d : List ℕ) (x : Single) (r : Tuples) (row i : ℕ) (seen : List ℕ) → FitsOne d x row i seen → Fits d r row (suc i) (numberFor x ∷ seen) → Fits d (before x r) row i seen
 unfolding Fits
 fits-before d (plain n x) r row i seen h g = (h .0, h .1, g)
 fits-before d (group n k kids) r row i seen h g = (h .0, h .1, g)
@@ -75,16 +78,6 @@ pub record One (d : List ℕ) (room : ℕ) (s : List ℕ) (row i : ℕ) (seen : 
   pub fitting : FitsOne d x row i seen
   pub shallow : depthOne x ≤ room
   pub spent : countOne x + m ≡ l
-  pub within : q ≤ e
-
-pub record Many (d : List ℕ) (room : ℕ) (s : List ℕ) (row k i : ℕ) (seen : List ℕ) (at e l q m : ℕ) (t : Tuples) : Type 0 where
-  pub bytes : List ℕ
-  pub lies : Lies s bytes at q
-  pub written : Writes t bytes
-  pub fitting : Fits d t row i seen
-  pub sized : size t ≡ k
-  pub shallow : depth t ≤ room
-  pub spent : count t + m ≡ l
   pub within : q ≤ e
 
 -- the value of a set or array

@@ -9,24 +9,13 @@ use Prim.Native.Nat.{ℕ, _/_, _<_, _≤_}
 use native.Mathlib.Omega.{arith}
 use lib.ListN.{length, length-append}
 use Rattle.numbers.specs.Number.{Number}
-use Rattle.numbers.proofs.Numbers.{number-cut}
+use Rattle.numbers.proofs.Numbers.{same-front, number-cut}
 use Rattle.payload.specs.Tree.{Scalar, null, integer, option, string, boolean, Shape, aSet, anArray, Tuples, none, scalar, inner, formatOf, shapeFormat, size}
 use Rattle.payload.specs.Header.{headerWith}
 use Rattle.payload.specs.Writes.{Cut, Tuple, Writes, Payload}
 use Rattle.payload.specs.Text.{rootText, rootCount, Means}
 use Rattle.payload.proofs.Lying.{number-long}
 use Rattle.payload.proofs.Scalars.{holds-unique}
-
--- two cuts at the same length
-same-front : (a b c d : List ℕ) → length a ≡ length b → a ++ c ≡ b ++ d → (a ≡ b) × (c ≡ d)
-same-front [] [] c d h e = (refl, e)
-same-front [] (y ∷ b) c d h e = absurd (omega arith)
-same-front (x ∷ a) [] c d h e = absurd (omega arith)
-same-front (x ∷ a) (y ∷ b) c d h e =
-    let g : length a ≡ length b = omega arith in
-    let r = same-front a b c d g (tail-eq-of-cons-eq e) in
-    let z = head-eq-of-cons-eq e in
-    (rw (z, r .0), r .1)
 
 record Same (n m f g : ℕ) (v w c d : List ℕ) : Type 0 where
   numbers : n ≡ m

@@ -6,3 +6,5 @@ pub mod Fits
 pub mod Text
 pub mod Values
 pub mod Reading
+pub mod Lying
+pub mod Refusing

@@ -1,9 +1,9 @@
--- Laws of the tests: `&&` by its parts, `all` at each number and step by step as a loop goes, `same` as equality.
+-- Laws of the tests: `&&` and `||` by their parts, `all` at each number and step by step as a loop goes, `same` as equality.
 -- Assumes nothing.
 use Prim.Native.Nat.{ℕ, zero, suc, _+_, _≤_, _<_}
 use mathlib.Core.Path.{_≡_, refl, sym, ap, _∙_}
 use mathlib.Core.List.{List, [], _∷_}
-use mathlib.Core.Bool.{Bool, true, false, not, _&&_, true≢false}
+use mathlib.Core.Bool.{Bool, true, false, not, _&&_, _||_, true≢false}
 use native.Mathlib.Omega.{arith}
 use native.Mathlib.Numerals.{add-one}
 use lib.Dec.{eqb}
@@ -28,6 +28,14 @@ pub and-not-right : (a b : Bool) → b ≡ false → a && b ≡ false
 and-not-right true b e = e
 and-not-right false b e = refl
 
+pub or-left : (a b : Bool) → a || b ≡ false → a ≡ false
+or-left true b e = e
+or-left false b e = refl
+
+pub or-right : (a b : Bool) → a || b ≡ false → b ≡ false
+or-right true b e = absurd (true≢false e)
+or-right false b e = e
+
 -- two tests are equal where each follows from the other
 pub both-ways : (a b : Bool) → (a ≡ true → b ≡ true) → (b ≡ true → a ≡ true) → a ≡ b
 both-ways true b f g = sym (f refl)
@@ -37,6 +45,10 @@ both-ways false false f g = refl
 pub not-so : (a : Bool) → (a ≡ true → ⊥) → a ≡ false
 not-so true f = absurd (f refl)
 not-so false f = refl
+
+pub true-so : (a : Bool) → (a ≡ false → ⊥) → a ≡ true
+true-so true f = refl
+true-so false f = absurd (f refl)
 
 pub so-not : (a : Bool) → a ≡ false → a ≡ true → ⊥
 so-not a f e = true≢false (sym e ∙ f)

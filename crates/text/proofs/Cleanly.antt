@@ -18,14 +18,13 @@ use Rattle.dictionary.specs.Children.{childNumbered}
 use Rattle.dictionary.proofs.Laws.{accepted-name, accepted-header, accepted-family, number-known, enum-parent}
 use Rattle.payload.specs.Tree.{Scalar, null, integer, option, string, boolean, Shape, aSet, anArray, Tuples, none, scalar, inner, formatOf, shapeFormat}
 use Rattle.payload.specs.Strings.{stringByte, wellSpelt}
-use Rattle.payload.specs.Fits.{Fits, isSet, child, rowOf, fits, allowed, known}
+use Rattle.payload.specs.Fits.{Fits, isSet, child, rowOf, fits, allowed}
 use Rattle.payload.specs.Text.{opens, closes, rootText}
-use Rattle.payload.proofs.Sitting.{fits-own, option-known, child-inside}
-use Rattle.payload.proofs.Unique.{shape-low}
+use Rattle.payload.proofs.Sitting.{fits-own, option-known}
 use Rattle.text.specs.Tokens.{Token, aSign, sign}
 use Rattle.text.specs.Spells.{Spells, tokenOf, labelTokens, commaToken, tokensOf, rootTokens, less}
 use Rattle.text.proofs.Words.{Proper}
-use Rattle.text.proofs.Told.{Sound}
+use Rattle.text.proofs.Told.{Sound, group-kind, inside}
 use Rattle.text.proofs.Flat.{AllTight, less-flat, root-flat}
 use Rattle.text.proofs.Cutting.{Clean, clean-tight}
 
@@ -93,12 +92,6 @@ module _ (d : List ℕ) (ok : accepts d ≡ true) where
   token-clean row (string t) h f a p = p
   token-clean row (boolean b) h f a p = tt
 
-  pub inside : (g : Shape) (row i n : ℕ) → row < entries d → kind d row ≡ shapeFormat g → known d row i n ≡ true → child d row n < entries d
-  inside g row i n h k e = child-inside d ok row h i n (omega (arith, k, shape-low g)) e
-
-  pub group-kind : (row : ℕ) (g : Shape) → fits d row (shapeFormat g) ≡ true → kind d row ≡ shapeFormat g
-  group-kind row g f = sym (fits-own d row (shapeFormat g) (λ z. omega (arith, z, shape-low g)) .0 f)
-
   label-clean : (row n : ℕ) → child d row n < entries d → AllClean (labelTokens d row n)
   unfolding AllClean labelTokens
   label-clean row n h = go (isSet d row) refl
@@ -111,18 +104,18 @@ module _ (d : List ℕ) (ok : accepts d ≡ true) where
   unfolding AllClean tokensOf Sound Fits
   tokens-clean none g row i seen h k p f = tt
   tokens-clean (scalar n x rest) g row i seen h k p f =
-      let c = inside g row i n h k (f .0 .is-known) in
+      let c = inside d ok g row i n h k (f .0 .is-known) in
       clean-append (commaToken i) _ (comma-clean i)
       (clean-append (labelTokens d row n) _ (label-clean row n c)
       (token-clean (child d row n) x c (f .0 .does-fit) (f .1) (p .0), tokens-clean rest g row (suc i) (n ∷ seen) h k (p .1) (f .2)))
   tokens-clean (inner n a kids rest) g row i seen h k p f =
-      let c = inside g row i n h k (f .0 .is-known) in
+      let c = inside d ok g row i n h k (f .0 .is-known) in
       let j = tokensOf d kids (child d row n) 0 in
       clean-append (commaToken i) _ (comma-clean i)
       (clean-append (labelTokens d row n) _ (label-clean row n c) (
         opens-sign a,
         clean-append (j ++ (aSign (closes a) ∷ [])) (tokensOf d rest row (suc i))
-            (clean-append j (aSign (closes a) ∷ []) (tokens-clean kids a (child d row n) 0 [] c (group-kind (child d row n) a (f .0 .does-fit)) (p .0) (f .1)) (closes-sign a, tt))
+            (clean-append j (aSign (closes a) ∷ []) (tokens-clean kids a (child d row n) 0 [] c (group-kind d (child d row n) a (f .0 .does-fit)) (p .0) (f .1)) (closes-sign a, tt))
             (tokens-clean rest g row (suc i) (n ∷ seen) h k (p .1) (f .2)),
       ))
 

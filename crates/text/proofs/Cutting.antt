@@ -10,7 +10,7 @@ use mathlib.Core.Bool.{Bool, true, false, _||_, true≢false}
 use Prim.Native.Nat.{ℕ, suc, _+_, _-_, _<_, _≤_}
 use native.Mathlib.Omega.{arith}
 use lib.ListN.{length, take, drop, length-drop}
-use lib.Seq.{slice, drop-drop, drop-append-seam}
+use lib.Seq.{slice}
 use lib.Dec.{eqb}
 use borrow.Author.Tests.{eqb-true, eq-eqb}
 use Rattle.terms.specs.Checks.{choose}
@@ -20,7 +20,8 @@ use Rattle.numbers.proofs.Decimals.{only-head, only-tail, plain-only, integral-
 use Rattle.numbers.proofs.Places.{slice-take}
 use Rattle.payload.specs.Strings.{stringByte, wellSpelt}
 use Rattle.payload.specs.Text.{quote, nullText, trueText, falseText}
-use Rattle.payload.proofs.Lying.{Lies, part}
+use Rattle.payload.specs.Lying.{Lies}
+use Rattle.payload.proofs.Lying.{part}
 use Rattle.text.specs.Tokens.{Token, aSign, aString, aNull, aBoolean, anInteger, aReal, spelt, space, sign, letter, wordByte}
 use Rattle.text.specs.Numerals.{leading}
 use Rattle.text.specs.Scanning.{past}
@@ -184,9 +185,6 @@ module _ (P : ℕ → Bool) where
   -- what a run of P leaves behind it, from p to where it ends
   pub past-lies : (s : List ℕ) (p : ℕ) → p ≤ length s → Lies s (slice p (past P s p) s) p (past P s p)
   past-lies s p h = part s p (past P s p) (past-least s p) (past-most s p h)
-
-pub drop-past : (s a r : List ℕ) (p : ℕ) → drop p s ≡ a ++ r → drop (p + length a) s ≡ r
-drop-past s a r p e = sym (drop-drop (length a) p s) ∙ ap (drop (length a)) e ∙ drop-append-seam a r
 
 pub drop-inside : (s x : List ℕ) (c p : ℕ) → drop p s ≡ c ∷ x → p < length s
 drop-inside s x c p e = omega (arith, ap length e, length-drop p s)

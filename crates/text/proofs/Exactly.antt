@@ -15,13 +15,14 @@ use lib.Dec.{ltb, eqb}
 use borrow.Author.Tests.{ltb-false, le-ltb, not-false}
 use Rattle.terms.specs.Limits.{payloadLeast, payloadMost, textLeast, textMost}
 use Rattle.terms.specs.Checks.{choose, Judged, refused, good}
+use Rattle.terms.proofs.Tests.{or-left, or-right}
 use Rattle.numbers.specs.Bytes.{Bytes}
 use Rattle.dictionary.specs.Accepts.{accepts}
 use Rattle.payload.specs.Tree.{Tuples}
 use Rattle.payload.specs.Writes.{Payload}
 use Rattle.payload.specs.Text.{quote, rootCount, Means}
 use Rattle.payload.specs.Reading.{result, fitted, reads}
-use Rattle.payload.proofs.Exactly.{no-result, by-way, or-left, or-right, reads-passed, reads-sound, reads-complete}
+use Rattle.payload.proofs.Exactly.{result-text, result-count, no-result, by-way, reads-passed, reads-sound, reads-complete}
 use Rattle.text.specs.Tokens.{space}
 use Rattle.text.specs.Spells.{Says, lessFrom, less}
 use Rattle.text.specs.Shortest.{payloadOf}
@@ -33,12 +34,6 @@ use Rattle.text.proofs.Cleanly.{less-text}
 use Rattle.text.proofs.Paid.{payload-of}
 use Rattle.text.proofs.Hearing.{tree-complete}
 use Rattle.text.proofs.Trusting.{Answered, tree-sound}
-
-result-bytes : {t u : List ℕ} {n m : ℕ} → result t n ≡ result u m → t ≡ u
-result-bytes e = cc
-
-result-count : {t u : List ℕ} {n m : ℕ} → result t n ≡ result u m → n ≡ m
-result-count e = cc
 
 pub less-few : (inside : Bool) (s : List ℕ) → length (lessFrom inside s) ≤ length s
 unfolding lessFrom
@@ -79,7 +74,7 @@ module _ (d s : List ℕ) (room : ℕ) where
       go ok l m (good q j t) g e =
           let u = payloadOf t in
           let a = by-way (ltb room (length u) || ltb 16384 (length u)) _ _ _ b n e in
-          let i : u ≡ b = result-bytes (a .1) in
+          let i : u ≡ b = result-text (a .1) in
           let o = ltb-false room (length u) (or-left _ _ (a .0)) in
           let c = ltb-false 16384 (length u) (or-right (ltb room (length u)) _ (a .0)) in
           record {
@@ -154,7 +149,7 @@ pub other-way-round : (d p t : List ℕ) (n budget room room′ : ℕ) → Bytes
 other-way-round d p t n budget room room′ hb e h =
     let o = reads-passed d p budget room t n e in
     let r = reads-sound d p budget room t n hb e in
-    made (o .accepting) (o .most) (r .0) (r .1) (r .2) (r .3)
+    made (o .accepting) (o .in-table .most) (r .0) (r .1) (r .2) (r .3)
   where
     made : accepts d ≡ true → length p ≤ payloadMost → Means d p t n → n ≤ budget → length t ≤ room → length t ≤ textMost → (b : List ℕ) × (writes d t room′ ≡ result b n) × (length b ≤ length p) × (reads d b budget room ≡ result t n)
     made ok most m h₁ h₂ h₃ =

@@ -25,10 +25,10 @@ use Rattle.text.specs.Spells.{Spells, tokenOf, labelTokens, tokensOf, ro
 use Rattle.text.specs.Scanning.{past}
 use Rattle.text.specs.Values.{isSign, formFor}
 use Rattle.text.specs.Writing.{memberAt, run, insideOf, rootAt, treeOf}
-use Rattle.text.proofs.Told.{Sound}
+use Rattle.text.proofs.Told.{Sound, group-kind, inside}
 use Rattle.text.proofs.Cutting.{Clean, blank-all, past-run, past-most}
 use Rattle.text.proofs.Spacing.{Signed, Loose, loose-signed, next-complete}
-use Rattle.text.proofs.Cleanly.{name-spelt, comma-sign, opens-sign, closes-sign, token-clean, inside, group-kind}
+use Rattle.text.proofs.Cleanly.{name-spelt, comma-sign, opens-sign, closes-sign, token-clean}
 use Rattle.text.proofs.Valuing.{Arrived, scalar-value, group-value, member-complete}
 
 abbrev pub Filled : Tuples → Type 0
@@ -204,7 +204,7 @@ module _ (d s : List ℕ) (ok : accepts d ≡ true) where
   run-complete (inner n a kids rest) (suc room) g row (suc k) i seen p r z h e v f m b l y =
       let w = aSign (closes g) ∷ r in
       let c = inside d ok g row i n h e (f .0 .is-known) in
-      let ck = group-kind d ok (child d row n) a (f .0 .does-fit) in
+      let ck = group-kind d (child d row n) a (f .0 .does-fit) in
       let R = tokensOf d rest row (suc i) ++ w in
       let K = tokensOf d kids (child d row n) 0 ++ (aSign (closes a) ∷ R) in
       let y' : Spells (labelTokens d row n ++ (aSign (opens a) ∷ K)) (drop p s) = rw (spread (labelTokens d row n) (tokensOf d kids (child d row n) 0) (tokensOf d rest row (suc i)) w (aSign (opens a)) (aSign (closes a))) at y in

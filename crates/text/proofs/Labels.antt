@@ -2,24 +2,23 @@
 -- Assumes nothing.
 --   Unquoted t                  t holds no quote; name-unquoted, spelt-unquoted: a row's name, a string of a payload
 --   quoted-cut                  what begins with a quoted text begins with one only
---   sibling                     two children of one name are one
 --   label-set, label-array      the label of a member
 --   labels                      a label tells the number, whatever follows it
 --   label-closes                no label begins as its group ends
 use mathlib.Core.Path.{_≡_, refl, sym, ap, _∙_}
 use mathlib.Core.List.{List, [], _∷_, _++_, append-assoc, head-eq-of-cons-eq, tail-eq-of-cons-eq}
-use mathlib.Core.Bool.{Bool, true, false, _&&_, not}
+use mathlib.Core.Bool.{true, _&&_, not}
 use Prim.Native.Nat.{ℕ, suc, _+_, _<_}
 use native.Mathlib.Omega.{arith}
 use lib.ListN.{length, getD}
-use lib.Dec.{ltb, leb, eqb}
-use borrow.Author.Tests.{ltb-true, ltb-false, eq-eqb, ne-eqb, eqb-false, not-true}
+use lib.Dec.{leb, eqb}
+use borrow.Author.Tests.{eq-eqb, ne-eqb, eqb-false, not-true}
 use Rattle.terms.proofs.Tests.{and-left, and-right}
 use Rattle.dictionary.specs.Formats.{setForm}
 use Rattle.dictionary.specs.Rows.{entries, kind, firstChild, childCount, name}
 use Rattle.dictionary.specs.Accepts.{nameByte, accepts}
 use Rattle.dictionary.specs.Given.{parent, Family, Members}
-use Rattle.dictionary.proofs.Laws.{accepted-name, accepted-family, accepted-members}
+use Rattle.dictionary.proofs.Laws.{accepted-name, accepted-family, accepted-members, sibling}
 use Rattle.payload.specs.Tree.{Shape, aSet, anArray, shapeFormat}
 use Rattle.payload.specs.Strings.{stringByte, wellSpelt}
 use Rattle.payload.specs.Fits.{known, child}
@@ -73,14 +72,6 @@ module _ (d : List ℕ) (row n : ℕ) where
 pub set-parent : (d : List ℕ) (row : ℕ) → kind d row ≡ setForm → parent d row ≡ true
 unfolding parent
 set-parent d row k = rw k
-
-pub sibling : (d : List ℕ) (row p q : ℕ) → Members d row → p < childCount d row → q < childCount d row → name d (firstChild d row + p) ≡ name d (firstChild d row + q) → p ≡ q
-sibling d row p q m h g e = go (ltb p q) (ltb q p) refl refl
-  where
-    go : (a b : Bool) → ltb p q ≡ a → ltb q p ≡ b → p ≡ q
-    go true b f k = absurd (m .differ q p (ltb-true p q f) g e)
-    go false true f k = absurd (m .differ p q (ltb-true q p k) h (sym e))
-    go false false f k = omega (arith, ltb-false p q f, ltb-false q p k)
 
 module _ (d : List ℕ) (ok : accepts d ≡ true) where
   pub name-unquoted : (r : ℕ) → r < entries d → Unquoted (name d r)

@@ -25,8 +25,8 @@ use Rattle.payload.proofs.Complete.{scalar-base}
 use Rattle.text.specs.Shortest.{formByte, tupleOf, valueBytes, shortest, payloadOf}
 use Rattle.text.proofs.Labels.{set-parent}
 use Rattle.text.proofs.Words.{Proper}
-use Rattle.text.proofs.Told.{Sound}
-use Rattle.text.proofs.Cleanly.{option-row, inside, group-kind}
+use Rattle.text.proofs.Told.{Sound, group-kind, inside}
+use Rattle.text.proofs.Cleanly.{option-row}
 
 pub tuple-long : (n f : ℕ) (v : List ℕ) → length v + 5 ≤ length (tupleOf n f v)
 unfolding tupleOf
@@ -109,7 +109,7 @@ module _ (d : List ℕ) (ok : accepts d ≡ true) where
               back = shortest kids;
               whole = refl;
               here = number-written (size kids) (omega (arith, size-few kids, z, j, m));
-              rest = writes-of kids a (child d row n) 0 [] c (group-kind d ok (child d row n) a (f .0 .does-fit)) (p .0) (f .1) (omega (arith, z, j, m));
+              rest = writes-of kids a (child d row n) 0 [] c (group-kind d (child d row n) a (f .0 .does-fit)) (p .0) (f .1) (omega (arith, z, j, m));
             });
         rest = writes-of rest g row (suc i) (n ∷ seen) h k (p .1) (f .2) (omega (arith, z, j));
       }

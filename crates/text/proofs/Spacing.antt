@@ -13,11 +13,11 @@ use lib.ListN.{length, drop}
 use lib.Seq.{slice}
 use Rattle.terms.specs.Checks.{good}
 use Rattle.terms.proofs.Tests.{and-left}
-use Rattle.payload.proofs.Lying.{lies-end}
+use Rattle.payload.proofs.Lying.{lies-end, drop-past}
 use Rattle.text.specs.Tokens.{Token, aSign, aString, aNull, aBoolean, anInteger, aReal, spelt, space, sign, wordByte}
 use Rattle.text.specs.Scanning.{past, tokenAt}
 use Rattle.text.specs.Spells.{blank, Spells}
-use Rattle.text.proofs.Cutting.{Halts, Clean, Ends, clean-halts, blank-all, all-blank, past-run, past-all, past-lies, drop-past, sign-no-word, space-no-word}
+use Rattle.text.proofs.Cutting.{Halts, Clean, Ends, clean-halts, blank-all, all-blank, past-run, past-all, past-lies, sign-no-word, space-no-word}
 use Rattle.text.proofs.Standing.{Stands, token-complete, Known, token-sound}
 
 abbrev pub IsSign : Token → Type 0

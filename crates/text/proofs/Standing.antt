@@ -15,18 +15,19 @@ use Rattle.terms.specs.Refusals.{badText}
 use Rattle.terms.specs.Checks.{choose, good, need}
 use Rattle.terms.specs.Tests.{same}
 use Rattle.terms.proofs.Tests.{so-not, same-true, same-ne}
+use Rattle.terms.proofs.Checks.{same-place, same-thing, passed, needed}
 use Rattle.numbers.specs.Bytes.{byte}
 use Rattle.numbers.specs.Decimal.{plain, integral}
 use Rattle.numbers.proofs.Places.{first, slice-is}
 use Rattle.dictionary.specs.Accepts.{nameByte}
 use Rattle.payload.specs.Strings.{stringByte}
 use Rattle.payload.specs.Text.{quote, nullText, trueText, falseText, quoted}
-use Rattle.payload.proofs.Lying.{Lies, one, join}
-use Rattle.payload.proofs.Taken.{same-place, same-thing, passed, needed}
+use Rattle.payload.specs.Lying.{Lies}
+use Rattle.payload.proofs.Lying.{drop-past, one, join}
 use Rattle.text.specs.Tokens.{Token, aSign, aString, aNull, aBoolean, anInteger, aReal, spelt, sign, wordByte}
 use Rattle.text.specs.Numerals.{numeral}
 use Rattle.text.specs.Scanning.{past, stringAt, wordAt, tokenAt}
-use Rattle.text.proofs.Cutting.{AllOf, Halts, integral-word, spelt-all, all-spelt, word-no-sign, word-no-quote, past-run, past-all, past-lies, drop-past, drop-inside, Clean, Ends, null-word, true-word, false-word}
+use Rattle.text.proofs.Cutting.{AllOf, Halts, integral-word, spelt-all, all-spelt, word-no-sign, word-no-quote, past-run, past-all, past-lies, drop-inside, Clean, Ends, null-word, true-word, false-word}
 
 -- the token k stands at p, up to q, before x
 pub record Stands (s : List ℕ) (p q : ℕ) (k : Token) (x : List ℕ) : Type 0 where

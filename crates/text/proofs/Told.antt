@@ -55,7 +55,7 @@ not-open anArray e = omega arith
 
 module _ (d : List ℕ) where
   -- the format of a group that fits a row is the row's
-  group-kind : (row : ℕ) (g : Shape) → fits d row (shapeFormat g) ≡ true → kind d row ≡ shapeFormat g
+  pub group-kind : (row : ℕ) (g : Shape) → fits d row (shapeFormat g) ≡ true → kind d row ≡ shapeFormat g
   group-kind row g f = sym (fits-own d row (shapeFormat g) (λ z. omega (arith, z, shape-low g)) .0 f)
 
   no-bracket : (row : ℕ) (x : Scalar) (g : Shape) (c y : List ℕ) → Proper x → word d row x ++ c ≡ opens g ∷ y → ⊥
@@ -85,7 +85,7 @@ module _ (d : List ℕ) where
   ended-inner n h kids rest g row (suc i) x y k e = absurd (not-comma g (head-eq-of-cons-eq e))
 
 module _ (d : List ℕ) (ok : accepts d ≡ true) where
-  inside : (g : Shape) (row i n : ℕ) → row < entries d → kind d row ≡ shapeFormat g → known d row i n ≡ true → child d row n < entries d
+  pub inside : (g : Shape) (row i n : ℕ) → row < entries d → kind d row ≡ shapeFormat g → known d row i n ≡ true → child d row n < entries d
   inside g row i n h k e = child-inside d ok row h i n (omega (arith, k, shape-low g)) e
 
   pub runs : (t u : Tuples) (g : Shape) (row i : ℕ) (seen x y : List ℕ) → row < entries d → kind d row ≡ shapeFormat g → Sound t → Sound u → Fits d t row i seen → Fits d u row i seen → textOf d t row i ++ (closes g ∷ x) ≡ textOf d u row i ++ (closes g ∷ y) → (t ≡ u) × (x ≡ y)

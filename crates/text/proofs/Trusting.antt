@@ -18,6 +18,7 @@ use Rattle.terms.specs.Limits.{depthMost}
 use Rattle.terms.specs.Refusals.{badText}
 use Rattle.terms.specs.Checks.{choose, good, need, after}
 use Rattle.terms.proofs.Tests.{and-left, and-right, and-both}
+use Rattle.terms.proofs.Checks.{never, same-place, same-thing, passed, needed, followed}
 use Rattle.numbers.specs.declared.Said.{Said}
 use Rattle.numbers.specs.declared.Said.the-variants.{Wrong, Is}
 use Rattle.numbers.specs.Decimal.{integral, integerSaid}
@@ -34,9 +35,8 @@ use Rattle.payload.specs.Strings.{wellSpelt}
 use Rattle.payload.specs.Fits.{found, rowOf, known, child, fresh, fits, allowed, Fits}
 use Rattle.payload.specs.Text.{comma, colon, opens, closes}
 use Rattle.payload.specs.Reading.{Single, plain, group, numberFor, before, value}
-use Rattle.payload.proofs.Taken.{never, same-place, same-thing, passed, needed, followed}
 use Rattle.payload.proofs.Sitting.{known-array, fresh-array}
-use Rattle.payload.proofs.Sound.{depthOne, FitsOne}
+use Rattle.payload.proofs.Sound.{depthOne, FitsOne, depth-before, fits-before}
 use Rattle.text.specs.Tokens.{Token, aSign, aString, aNull, aBoolean, anInteger, aReal, space}
 use Rattle.text.specs.Spells.{blank, Spells, tokenOf, labelTokens, tokensOf, rootTokens}
 use Rattle.text.specs.Scanning.{past, tokenAt}
@@ -44,11 +44,11 @@ use Rattle.text.specs.Values.{isSign, begins, inBase, isEnum, formFor, i
 use Rattle.text.specs.Writing.{nameFor, keyFor, keyAt, bodyAt, valueAt, memberAt, run, insideOf, rootAt, treeOf}
 use Rattle.text.proofs.Labels.{set-parent}
 use Rattle.text.proofs.Words.{Proper}
-use Rattle.text.proofs.Told.{Sound}
+use Rattle.text.proofs.Told.{Sound, group-kind, inside}
 use Rattle.text.proofs.Cutting.{all-blank, past-all, past-lies, past-most}
 use Rattle.text.proofs.Standing.{Known}
 use Rattle.text.proofs.Spacing.{Reach, reach-join, next-sound}
-use Rattle.text.proofs.Cleanly.{enum-kind, inside, group-kind}
+use Rattle.text.proofs.Cleanly.{enum-kind}
 use Rattle.text.proofs.Hearing.{Filled, lead, lead-first, lead-more}
 
 is-sign : (c : ℕ) (k : Token) → isSign c k ≡ true → k ≡ aSign c
@@ -215,10 +215,10 @@ module _ (d s : List ℕ) (ok : accepts d ≡ true) where
       unfolding formFor
       sign-meant aSet at q e l x r f y =
           let a = followed e l x (insideOf d s room aSet row at q) _ y in
-          meant-recast (a .4) (group-meant aSet (a .2) q (a .0) f r (H aSet row at q (a .0) (a .1) (a .2) hr (group-kind d ok row aSet f) (r .within) (a .3)))
+          meant-recast (a .4) (group-meant aSet (a .2) q (a .0) f r (H aSet row at q (a .0) (a .1) (a .2) hr (group-kind d row aSet f) (r .within) (a .3)))
       sign-meant anArray at q e l x r f y =
           let a = followed e l x (insideOf d s room anArray row at q) _ y in
-          meant-recast (a .4) (group-meant anArray (a .2) q (a .0) f r (H anArray row at q (a .0) (a .1) (a .2) hr (group-kind d ok row anArray f) (r .within) (a .3)))
+          meant-recast (a .4) (group-meant anArray (a .2) q (a .0) f r (H anArray row at q (a .0) (a .1) (a .2) hr (group-kind d row anArray f) (r .within) (a .3)))
 
       option-meant : (t : List ℕ) (c : Child) (at q e l : ℕ) (x : Single) → childNamed d row t ≡ c → Reach s (aString t ∷ []) p q → fits d row enumForm ≡ true → (value (optionFor d c) at λ x. good q 0 (plain n x)) ≡ good e l x → Meant room n row p e x
       option-meant t Nothing at q e l x m r f y = never y
@@ -315,20 +315,10 @@ module _ (d s : List ℕ) (ok : accepts d ≡ true) where
   filled-before (plain n x) t = tt
   filled-before (group n g kids) t = tt
 
-  fits-before : (x : Single) (t : Tuples) (row i : ℕ) (seen : List ℕ) → FitsOne d x row i seen → Fits d t row (suc i) (numberFor x ∷ seen) → Fits d (before x t) row i seen
-  unfolding Fits
-  fits-before (plain n x) t row i seen h g = (h .0, h .1, g)
-  fits-before (group n k kids) t row i seen h g = (h .0, h .1, g)
-
   sound-before : (x : Single) (t : Tuples) → SoundOne x → Sound t → Sound (before x t)
   unfolding Sound SoundOne
   sound-before (plain n x) t h g = (h, g)
   sound-before (group n k kids) t h g = (h, g)
-
-  depth-before : (x : Single) (t : Tuples) (room : ℕ) → depthOne x ≤ room → depth t ≤ room → depth (before x t) ≤ room
-  unfolding depth
-  depth-before (plain n x) t room h g = g
-  depth-before (group n k kids) t room h g = omega arith
 
   module _ (room : ℕ) (H : (g : Shape) (row at p q l : ℕ) (t : Tuples) → row < entries d → kind d row ≡ shapeFormat g → p ≤ length s → insideOf d s room g row at p ≡ good q l t → Held-in room g row p q t) (g : Shape) (row : ℕ) (hr : row < entries d) (hk : kind d row ≡ shapeFormat g) where
     listed-recast : {i : ℕ} {seen : List ℕ} {p q l q' l' : ℕ} {t t' : Tuples} → good q l t ≡ good q' l' t' → Listed room g row i seen p q t → Listed room g row i seen p q' t'
@@ -341,9 +331,9 @@ module _ (d s : List ℕ) (ok : accepts d ≡ true) where
         record {
           reach = rw (lead-before x none row i, append-nil A) (reach-join A (aSign (closes g) ∷ []) (o .reach) r);
           filled = filled-before x none;
-          fitting = fits-before x none row i seen (o .fitting) tt;
+          fitting = fits-before d x none row i seen (o .fitting) tt;
           proper = sound-before x none (o .proper) tt;
-          shallow = depth-before x none room (o .shallow) (omega arith);
+          shallow = omega (arith, depth-before x none, o .shallow);
         }
 
     list-more : (i : ℕ) (seen : List ℕ) (p e q z : ℕ) (x : Single) (t : Tuples) → Stated room H row i seen p e x → Reach s (aSign comma ∷ []) e q → Listed room g row (suc i) (numberFor x ∷ seen) q z t → Listed room g row i seen p z (before x t)
@@ -354,9 +344,9 @@ module _ (d s : List ℕ) (ok : accepts d ≡ true) where
         record {
           reach = rw (lead-before x t row i, lead-more d t row i (m .filled), append-assoc A (aSign comma ∷ L) c) (reach-join A (aSign comma ∷ (L ++ c)) (o .reach) (reach-join (aSign comma ∷ []) (L ++ c) r (m .reach)));
           filled = filled-before x t;
-          fitting = fits-before x t row i seen (o .fitting) (m .fitting);
+          fitting = fits-before d x t row i seen (o .fitting) (m .fitting);
           proper = sound-before x t (o .proper) (m .proper);
-          shallow = depth-before x t room (o .shallow) (m .shallow);
+          shallow = omega (arith, depth-before x t, o .shallow, m .shallow);
         }
 
     pub run-sound : (k i : ℕ) (seen : List ℕ) (p q l : ℕ) (t : Tuples) → p ≤ length s → run d s (memberAt d s (insideOf d s room)) g row k i seen p ≡ good q l t → Listed room g row i seen p q t

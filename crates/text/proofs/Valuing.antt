@@ -1,6 +1,5 @@
 -- One value and one key: what a tree's token says where it is due.
 -- Assumes nothing.
---   named-known       a child is found by its name
 --   base-kind         a row of a format of the base
 --   form-token, scalar-token   the token of a scalar that fits has its format, and says it
 --   Arrived s j x r m   the judgement j is x, up to a place not before m from which the tokens r follow
@@ -8,22 +7,20 @@
 use mathlib.Core.Path.{_≡_, refl, sym, ap, _∙_}
 use mathlib.Core.List.{List, _∷_, _++_}
 use mathlib.Core.Bool.{Bool, true, false, not, _&&_}
-use Prim.Native.Nat.{ℕ, zero, suc, _+_, _-_, _*_, _<_, _≤_}
+use Prim.Native.Nat.{ℕ, suc, _+_, _-_, _*_, _<_, _≤_}
 use native.Mathlib.Omega.{arith}
 use lib.ListN.{length, drop}
 use lib.Dec.{eqb, ltb}
-use borrow.Author.Tests.{eqb-true, eqb-false, eq-eqb, ne-eqb, le-ltb}
-use Rattle.terms.specs.Checks.{choose, Judged, good}
-use Rattle.terms.proofs.Tests.{same-refl, same-true, and-not-left, and-not-right}
+use borrow.Author.Tests.{eqb-false, eq-eqb, ne-eqb, le-ltb}
+use Rattle.terms.specs.Checks.{Judged, good}
+use Rattle.terms.proofs.Tests.{and-not-left, and-not-right}
 use Rattle.numbers.proofs.Decimals.{text-says}
 use Rattle.dictionary.specs.declared.Child.the-variants.{At}
 use Rattle.dictionary.specs.Formats.{setForm, nullForm, enumForm, stringForm}
-use Rattle.dictionary.specs.Rows.{entries, kind, firstChild, childCount, name}
-use Rattle.dictionary.specs.Children.{seek, hasName, childNumbered, childNamed}
+use Rattle.dictionary.specs.Rows.{entries, kind, firstChild, name}
+use Rattle.dictionary.specs.Children.{childNumbered, childNamed}
 use Rattle.dictionary.specs.Accepts.{accepts}
-use Rattle.dictionary.specs.Given.{Family, Members}
-use Rattle.dictionary.proofs.Laws.{accepted-family, accepted-members, enum-parent}
-use Rattle.dictionary.proofs.Seeking.{Sought, seek-found}
+use Rattle.dictionary.proofs.Laws.{accepted-family, accepted-members, enum-parent, named-known}
 use Rattle.payload.specs.Tree.{Scalar, null, integer, option, string, boolean, Shape, aSet, anArray, Tuples, formatOf, shapeFormat}
 use Rattle.payload.specs.Values.{worth}
 use Rattle.payload.specs.Fits.{child, rowOf, fits, allowed, known, fresh}
@@ -38,37 +35,10 @@ use Rattle.text.specs.Spells.{Spells, tokenOf, labelTokens}
 use Rattle.text.specs.Scanning.{past}
 use Rattle.text.specs.Values.{begins, inBase, isEnum, formFor, integerFor, optionFor, scalarFor}
 use Rattle.text.specs.Writing.{keyAt, valueAt, memberAt}
-use Rattle.text.proofs.Labels.{sibling, set-parent}
+use Rattle.text.proofs.Labels.{set-parent}
 use Rattle.text.proofs.Words.{Proper}
 use Rattle.text.proofs.Spacing.{Signed, loose-signed, next-complete}
 use Rattle.text.proofs.Cleanly.{name-spelt, colon-sign, opens-sign, enum-kind, option-row, token-clean}
-
-seek-some : (P : ℕ → Bool) (k c x : ℕ) → P x ≡ true → c ≤ x → x < c + k → (y : ℕ) × (seek k c P ≡ At y)
-unfolding seek
-seek-some P zero c x e h g = absurd (omega arith)
-seek-some P (suc k) c x e h g = go (P c) refl (λ l. seek-some P k (suc c) x e l (omega arith))
-  where
-    go : (b : Bool) → P c ≡ b → (suc c ≤ x → (y : ℕ) × (seek k (suc c) P ≡ At y)) → (y : ℕ) × (choose b (λ _. At c) (λ _. seek k (suc c) P) ≡ At y)
-    go true f rec = (c, refl)
-    go false f rec = rec (other (eqb c x) refl)
-      where
-        other : (b : Bool) → eqb c x ≡ b → suc c ≤ x
-        other true z = let w = eqb-true c x z in absurd (let v : true ≡ false = sym e ∙ ap P (sym w) ∙ f in let o : _≡_ {A = ℕ} 0 1 = cc in omega arith)
-        other false z = omega (arith, eqb-false c x z)
-
-pub named-known : (d : List ℕ) (row n : ℕ) → Family d row → Members d row → n < childCount d row → childNamed d row (name d (firstChild d row + n)) ≡ At (firstChild d row + n)
-unfolding childNamed
-named-known d row n w m h =
-    let t = name d (firstChild d row + n) in
-    let o = seek-some (hasName d t) (childCount d row) (firstChild d row) (firstChild d row + n) (same-refl t) (omega arith) (omega arith) in
-    o .1 ∙ ap At (one (o .0) (seek-found (hasName d t) (childCount d row) (firstChild d row) (o .0) (o .1)))
-  where
-    one : (c : ℕ) → Sought (hasName d (name d (firstChild d row + n))) (childCount d row) (firstChild d row) c → c ≡ firstChild d row + n
-    one c s =
-        let q : firstChild d row + (c - firstChild d row) ≡ c = omega (arith, s .from) in
-        let e : name d (firstChild d row + (c - firstChild d row)) ≡ name d (firstChild d row + n) = rw q (same-true (name d c) (name d (firstChild d row + n)) (s .passes)) in
-        let z = sibling d row (c - firstChild d row) n m (omega (arith, s .from, s .under)) h e in
-        omega (arith, z, s .from)
 
 pub base-kind : (d : List ℕ) (row f : ℕ) → Base f → f ≡ kind d row → inBase d row ≡ true
 unfolding inBase
