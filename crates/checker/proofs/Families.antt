@@ -1,16 +1,17 @@
 -- A row's children by its format, all rows, and the whole: the returns of the checker's upper functions.
 -- Assumes nothing.
 use Prim.Native.Nat.{ℕ, _+_, _*_, _≤_, _<_}
-use mathlib.Core.Path.{_≡_, refl, sym, _∙_}
+use mathlib.Core.Path.{_≡_, sym, _∙_}
 use mathlib.Core.List.{List}
 use mathlib.Core.Bool.{Bool, true, false, not}
 use native.Mathlib.Omega.{arith}
 use native.Mathlib.Nat.{add-zero}
-use lib.ListN.{length, getD, replicate, length-replicate, getD-replicate, List·getD-eq-default}
-use lib.Dec.{leb, eqb}
-use borrow.Author.Tests.{ne-eqb, le-leb, lt-leb, leb-true, leb-false, not-true, not-false}
+use lib.ListN.{length, replicate}
+use lib.Dec.{eqb}
+use borrow.Author.Tests.{ne-eqb, le-leb, lt-leb, not-true, not-false}
 use Rattle.terms.specs.Tests.{all, Passing}
 use Rattle.terms.proofs.Tests.{pass-start, pass-stop, pass-more, pass-done}
+use Rattle.numbers.proofs.Places.{blank}
 use Rattle.dictionary.specs.Rows.{kind, numberIn, firstChild, childCount}
 use Rattle.dictionary.specs.Accepts.{blockFine, inTurn, member, stringChild, setFine, arrayFine, enumFine, leafForm, childless, childrenFine}
 use Rattle.dictionary.specs.Met.{Field, Rowed}
@@ -121,13 +122,6 @@ pub ruleset formats = (by-set, by-array, by-enum, by-leaf, by-other)
 pub record Raising (d : List ℕ) (n : ℕ) (m : List ℕ) (r : ℕ) : Type 0 where
   pub passing : Passing (childrenFine d) n r
   pub marks-true : Marks d m
-
-blank : (n j z : ℕ) → getD (replicate n z) j z ≡ z
-blank n j z = go (leb n j) refl
-  where
-    go : (t : Bool) → leb n j ≡ t → getD (replicate n z) j z ≡ z
-    go true e = List·getD-eq-default (replicate n z) z (rw (← length-replicate n z) at (leb-true n j e))
-    go false e = getD-replicate n j z z (leb-false n j e)
 
 module _ (d : List ℕ) (n : ℕ) where
   pub raise-start : Raising d n (replicate 6552 0) 0

@@ -11,6 +11,7 @@ use dictionary::formats::STRING;
 use dictionary::names::same_bytes;
 use dictionary::rows::HEADER_BYTES;
 use dictionary::rows::ROW_BYTES;
+use dictionary::rows::ROWS_MOST;
 use dictionary::rows::child_count;
 use dictionary::rows::child_offset;
 use dictionary::rows::entry_count;
@@ -34,9 +35,6 @@ ghost use Rattle.dictionary.specs.Rows.{rowAt, rowBytes, firstChild, childCount
 ghost use Rattle.dictionary.specs.Accepts.{headerFine, childless, blockFine, inTurn, unlike, member, stringChild, setFine, arrayFine, enumFine, leafForm, childrenFine, nameFine, accepts};
 ghost use Rattle.dictionary.specs.Met.{Rowed, Named};
 ghost use Rattle.checker.specs.Marks.{Marks, Marked};
-
-// The most rows that a dictionary of the most bytes has room for.
-const ROWS_MOST: usize = (DICTIONARY_MOST - HEADER_BYTES) / ROW_BYTES;
 
 fn header_fine(d: &[u8]) -> bool
     ensures { λ r. ⌜ r ≡ headerFine (now (d .entry)) ⌝ }

@@ -8,7 +8,7 @@ use native.Mathlib.Omega.{arith}
 use lib.ListN.{length, take, drop, length-append, length-drop, take-append-drop}
 use lib.Seq.{take-add, drop-drop, length-take-le}
 use lib.Dec.{eqb}
-use borrow.Author.Tests.{eq-eqb, eqb-true}
+use borrow.Author.Tests.{eq-eqb, ne-eqb, eqb-true}
 use Rattle.terms.specs.Limits.{deskMost}
 use Rattle.numbers.specs.Bytes.{Bytes, lowest}
 use Rattle.desk.specs.declared.Record.{Record}
@@ -18,14 +18,15 @@ use Rattle.numbers.proofs.Places.{bytes-drop, bytes-take}
 use Rattle.desk.proofs.Places.{split}
 use Rattle.desk.specs.Bytes.{recordBytes, field, encodeRecord, encodeRecords, encode, decodeRecord, decodeRecords, decode, Narrow, AllNarrow}
 
-same : (a b c d e f a′ b′ c′ d′ e′ f′ : ℕ) → a ≡ a′ → b ≡ b′ → c ≡ c′ → d ≡ d′ → e ≡ e′ → f ≡ f′
+-- two records are equal where their six numbers are
+pub same-record : (a b c d e f a′ b′ c′ d′ e′ f′ : ℕ) → a ≡ a′ → b ≡ b′ → c ≡ c′ → d ≡ d′ → e ≡ e′ → f ≡ f′
     → _≡_ {A = Record} (record { number = a; kind = b; state = c; declared = d; received = e; due = f }) (record { number = a′; kind = b′; state = c′; declared = d′; received = e′; due = f′ })
-same a b c d e f a′ b′ c′ d′ e′ f′ p q r s t u = rw (p, q, r, s, t, u)
+same-record a b c d e f a′ b′ c′ d′ e′ f′ p q r s t u = rw (p, q, r, s, t, u)
 
 record-back : (r : Record) (bs : List ℕ) → Narrow r → decodeRecord (encodeRecord r ++ bs) ≡ r
 unfolding decodeRecord encodeRecord lowest
 record-back r bs h =
-    same _ _ _ _ _ _ (r .number) (r .kind) (r .state) (r .declared) (r .received) (r .due)
+    same-record _ _ _ _ _ _ (r .number) (r .kind) (r .state) (r .declared) (r .received) (r .due)
     (little-lowest 2 (r .number) (h .number))
     (little-lowest 1 (r .kind) (h .kind))
     (little-lowest 1 (r .state) (h .state))
@@ -96,15 +97,25 @@ records-forth (suc count) bs b h =
     rw (record-forth bs b (omega arith), records-forth count (drop recordBytes bs) (bytes-drop bs recordBytes b) (length-drop recordBytes bs ∙ omega arith))
     (take-append-drop recordBytes bs)
 
-pub encode-decode : (bs : List ℕ) (d : Desk) → Bytes bs → decode bs ≡ some d → encode d ≡ bs
+-- what bytes that spell a desk are, and which spell none
+pub decode-some : (bs : List ℕ) (d : Desk) → decode bs ≡ some d → (length bs ≡ deskMost * recordBytes) × (_≡_ {A = Desk} (record { records = decodeRecords deskMost bs }) d)
 unfolding decode
-encode-decode bs d b h =
+decode-some bs d h =
     split (eqb (length bs) (deskMost * recordBytes))
     (λ t.
     let e : _≡_ {A = Option Desk} (some (record { records = decodeRecords deskMost bs })) (some d) = rw t at h in
     let f : _≡_ {A = Desk} (record { records = decodeRecords deskMost bs }) d = cc in
-    ap (λ (d : Desk). encode d) (sym f) ∙ records-forth deskMost bs b (eqb-true _ _ t))
+    (eqb-true _ _ t, f))
     (λ t.
     let e : _≡_ {A = Option Desk} none (some d) = rw t at h in
     let z : _≡_ {A = ℕ} 0 1 = cc in
     absurd (omega arith))
+
+pub decode-none : (bs : List ℕ) → (length bs ≡ deskMost * recordBytes → ⊥) → decode bs ≡ none
+unfolding decode
+decode-none bs z = rw (ne-eqb (length bs) (deskMost * recordBytes) z)
+
+pub encode-decode : (bs : List ℕ) (d : Desk) → Bytes bs → decode bs ≡ some d → encode d ≡ bs
+encode-decode bs d b h =
+    let e = decode-some bs d h in
+    ap (λ (d : Desk). encode d) (sym (e .1)) ∙ records-forth deskMost bs b (e .0)

@@ -18,7 +18,7 @@ use Rattle.desk.specs.declared.Moved.{Moved}
 use Rattle.desk.specs.Record.{empty}
 use Rattle.desk.specs.Moves.{feeding}
 use Rattle.desk.specs.Desk.{place, recordOf}
-use Rattle.desk.specs.Calls.{callNumber, called, feedNumber, fed, fedStore}
+use Rattle.desk.specs.Calls.{callNumber, called, feedNumber, fed, keptFrom, fedStore}
 use Rattle.desk.specs.View.{GoodDesk, Seen, see, bytesOf}
 use Rattle.desk.proofs.Places.{split, place-number, place-same, at-absent}
 use Rattle.desk.proofs.Soundness.{blank}
@@ -51,10 +51,6 @@ module _ (d : Desk) (st : List ℕ) (n : ℕ) (piece : List ℕ) where
   unfolding fed fedStore
   feed-stays z = (rw (ne-eqb (feedNumber d st n piece) accepted z), rw (ne-eqb (feedNumber d st n piece) accepted z))
 
--- where the piece goes
-abbrev start : Desk → ℕ → ℕ
-start d n = declaredMost * place n (d .records) + recordOf n d .received
-
 feeding-fits : (count : ℕ) (r : Record) → feeding count .fits r ≡ true → count ≤ r .declared - r .received
 unfolding feeding
 feeding-fits count r e = leb-true _ _ (and-right (leb 1 count) (leb count (r .declared - r .received)) e)
@@ -72,22 +68,22 @@ module _ (d : Desk) (g : GoodDesk d) (st : List ℕ) (full : eqb (length st) sto
   unfolding fedStore
   store-stays t = rw (full-number d st n piece full, call-judged d g n (feeding (length piece)), t)
 
-  store-goes : eqb (judge n (feeding (length piece)) (recordOf n d)) 0 ≡ true → fedStore d st n piece ≡ paste st (start d n) piece (length piece)
+  store-goes : eqb (judge n (feeding (length piece)) (recordOf n d)) 0 ≡ true → fedStore d st n piece ≡ paste st (keptFrom d n) piece (length piece)
   unfolding fedStore
   store-goes t = rw (full-number d st n piece full, call-judged d g n (feeding (length piece)), t)
 
   module _ (w : Goes d n (feeding (length piece))) where
     -- a piece that is taken ends within its place
-    ends : start d n + length piece ≤ declaredMost * place n (d .records) + declaredMost
+    ends : keptFrom d n + length piece ≤ declaredMost * place n (d .records) + declaredMost
     ends =
         let u = used-at d g n (w .nonzero) (w .there) in
         omega (arith, feeding-fits (length piece) (recordOf n d) (w .fits), declared-most (recordOf n d) u, received-most (recordOf n d) u)
 
-    inside : start d n + length piece ≤ length st
+    inside : keptFrom d n + length piece ≤ length st
     inside = omega (arith, ends, w .there, g .eight, eqb-true (length st) storeBytes full)
 
     -- a number's bytes do not change where another's piece is pasted
-    apart : (k : ℕ) → (k ≡ n → ⊥) → bytesOf k d (paste st (start d n) piece (length piece)) ≡ bytesOf k d st
+    apart : (k : ℕ) → (k ≡ n → ⊥) → bytesOf k d (paste st (keptFrom d n) piece (length piece)) ≡ bytesOf k d st
     apart k ne =
         split (eqb k 0)
         (λ t. rw (eqb-true k 0 t) (rw (blank (d .records) (g .right))))
@@ -101,15 +97,15 @@ module _ (d : Desk) (g : GoodDesk d) (st : List ℕ) (full : eqb (length st) sto
         split (ltb (place k (d .records)) (place n (d .records)))
         (λ x.
         let y = ltb-true (place k (d .records)) (place n (d .records)) x in
-        part-before st (start d n) piece (length piece) inside (omega arith) (declaredMost * place k (d .records)) (recordOf k d .received) (omega arith))
+        part-before st (keptFrom d n) piece (length piece) inside (omega arith) (declaredMost * place k (d .records)) (recordOf k d .received) (omega arith))
         (λ x.
         let y = ltb-false (place k (d .records)) (place n (d .records)) x in
         let z : place k (d .records) ≡ place n (d .records) → ⊥ =
         λ e. ne (sym (place-number k (d .records) h) ∙ ap (λ (i : ℕ). getD (d .records) i empty .number) e ∙ place-number n (d .records) (w .there)) in
-        part-behind st (start d n) piece (length piece) inside (omega arith) (declaredMost * place k (d .records)) (recordOf k d .received) (omega (arith, z))))
+        part-behind st (keptFrom d n) piece (length piece) inside (omega arith) (declaredMost * place k (d .records)) (recordOf k d .received) (omega (arith, z))))
         (λ q. rw (at-absent k (d .records) (ltb-false _ _ q))))
 
-    pub fed-bytes : bytesOf n (moved d n (feeding (length piece))) (paste st (start d n) piece (length piece)) ≡ bytesOf n d st ++ piece
+    pub fed-bytes : bytesOf n (moved d n (feeding (length piece))) (paste st (keptFrom d n) piece (length piece)) ≡ bytesOf n d st ++ piece
     fed-bytes =
         let r = feeding (length piece) .next (recordOf n d) in
         rw (
@@ -117,13 +113,13 @@ module _ (d : Desk) (g : GoodDesk d) (st : List ℕ) (full : eqb (length st) sto
           feeding-received (length piece) (recordOf n d),
           place-same n (d .records) (place n (d .records)) r (feeding-number (length piece) (recordOf n d)),
         )
-        (part-with st (start d n) piece (length piece) inside (omega arith) (declaredMost * place n (d .records)) (recordOf n d .received) refl
+        (part-with st (keptFrom d n) piece (length piece) inside (omega arith) (declaredMost * place n (d .records)) (recordOf n d .received) refl
         ∙ ap (λ (l : List ℕ). bytesOf n d st ++ l) (take-length piece))
 
   pub feed-size : length (fedStore d st n piece) ≡ length st
   feed-size = elim (way d g n (feeding (length piece))) [
     | refused e t ↦ rw (store-stays t)
-    | goes e t w ↦ rw (store-goes t) (length-paste st (start d n) piece (length piece) (inside w) (omega arith))
+    | goes e t w ↦ rw (store-goes t) (length-paste st (keptFrom d n) piece (length piece) (inside w) (omega arith))
   ]
 
   pub feed-others : (k : ℕ) → (k ≡ n → ⊥) → see k (kept (fed d st n piece .desk) (fedStore d st n piece)) ≡ see k (kept d st)

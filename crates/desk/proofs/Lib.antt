@@ -13,3 +13,11 @@ pub mod Orders
 pub mod Mixing
 pub mod Listing
 pub mod Codec
+pub mod Scanning
+pub mod Ruling
+pub mod Reaching
+pub mod Answering
+pub mod Entering
+pub mod Supplying
+pub mod Turns
+pub mod Sifting

@@ -93,17 +93,17 @@ numbers-rise (r ∷ rs) s =
     let a = le-ltb (place (r .number) rs) (length rs) (fresh-absent (r .number) rs (sound-fresh r rs s) z) in
     rw t (insert-rises (r .number) (rising (numbers rs)) (among-rising (r .number) (numbers rs) ∙ among-numbers (r .number) rs z ∙ a) ih))
 
-length-insert : (n : ℕ) (ns : List ℕ) → length (insert n ns) ≡ suc (length ns)
+pub length-insert : (n : ℕ) (ns : List ℕ) → length (insert n ns) ≡ suc (length ns)
 unfolding insert
 length-insert n [] = refl
 length-insert n (m ∷ ns) = split (leb n m) (λ t. rw t) (λ t. rw (t, length-insert n ns))
 
-length-rising : (ns : List ℕ) → length (rising ns) ≡ length ns
+pub length-rising : (ns : List ℕ) → length (rising ns) ≡ length ns
 unfolding rising
 length-rising [] = refl
 length-rising (n ∷ ns) = length-insert n (rising ns) ∙ ap suc (length-rising ns)
 
-length-numbers : (rs : List Record) → length (numbers rs) ≤ length rs
+pub length-numbers : (rs : List Record) → length (numbers rs) ≤ length rs
 unfolding numbers
 length-numbers [] = omega arith
 length-numbers (r ∷ rs) =

@@ -1,6 +1,7 @@
 -- What each call answers, on every desk and every store, sound or not: the number, the whole desk after and the whole store after.
 --   opened, fed, started, finished, taken, killed, closed     the number and the desk after
 --   fedStore                                                  the store after a feed; no other call is lent it
+--   keptFrom                                                  where in the store a feed keeps its bytes
 --   told, listed                                              what status and list answer; the desk stays
 -- The orders of the tests stand in admit, openNumber and callNumber; what a call does to a record stands in Moves.
 use Prim.Native.Nat.{ℕ, _+_, _*_}
@@ -90,10 +91,13 @@ fed d store n piece =
     settle d (feedNumber d store n piece) (place n (d .records)) (feeding (length piece) .next (recordOf n d))
 
 -- "the bytes are kept after those already received, in that place's 4,096 bytes (place p, from 0, has those from 4,096p)"
+abbrev pub keptFrom : Desk → ℕ → ℕ
+keptFrom d n = declaredMost * place n (d .records) + recordOf n d .received
+
 unfoldable pub fedStore : Desk → List ℕ → ℕ → List ℕ → List ℕ
 fedStore d store n piece =
     choose (eqb (feedNumber d store n piece) accepted)
-    (λ _. paste store (declaredMost * place n (d .records) + recordOf n d .received) piece (length piece))
+    (λ _. paste store (keptFrom d n) piece (length piece))
     (λ _. store)
 
 -- 24 is for "other calls but status".

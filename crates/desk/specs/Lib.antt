@@ -6,3 +6,4 @@ pub mod Calls
 pub mod View
 pub mod Bytes
 pub mod State
+pub mod Met

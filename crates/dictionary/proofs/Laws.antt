@@ -228,6 +228,11 @@ module _ (d : List ℕ) (ok : accepts d ≡ true) where
           (λ f _. absurd (let z = sym k ∙ f in omega (arith, z)))
           (λ _ e. (enum-some e, λ p l. string-child d (firstChild d r) p (all-at _ _ (enum-strings e) p l)))
 
+-- a child that is found by a number has that number: so one row is the child of one number only
+pub number-own : (d : List ℕ) (r n c : ℕ) → childNumbered d r n ≡ At c → numberIn d c ≡ n
+unfolding childNumbered
+number-own d r n c e = eqb-true (numberIn d c) n (seek-found (hasNumber d n) (childCount d r) (firstChild d r) c e .passes)
+
 -- children by number: in an accepted dictionary the number is the position
 module _ (d : List ℕ) (n first : ℕ) where
   seek-turn : (k i : ℕ) → ((p : ℕ) → i ≤ p → p < i + k → numberIn d (first + p) ≡ p) → i ≤ n → n < i + k → seek k (first + i) (hasNumber d n) ≡ At (first + n)

@@ -1,5 +1,6 @@
 // A dictionary's fields, read where specs/Rows says that they stand.
 use numbers::wide;
+use terms::DICTIONARY_MOST;
 ghost use mathlib.Core.Path.{_≡_};
 ghost use Prim.Native.Nat.{_+_, _*_, _≤_, _<_};
 ghost use lib.ListN.{length};
@@ -10,6 +11,9 @@ ghost use Rattle.dictionary.specs.Met.{Field};
 pub const HEADER_BYTES: usize = 12;
 
 pub const ROW_BYTES: usize = 10;
+
+// The most rows that a dictionary of the most bytes has room for.
+pub const ROWS_MOST: usize = (DICTIONARY_MOST - HEADER_BYTES) / ROW_BYTES;
 
 fn short_at(d: &[u8], at: usize) -> usize
     requires { ⌜ at + 2 ≤ length (now d) ⌝ }

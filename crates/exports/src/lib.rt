@@ -1,4 +1,7 @@
 // The functions that C and Rust link. Numbers and slices only: a slice is a pointer and a length.
+mod codec;
+mod operations;
+
 ghost use mathlib.Core.Path.{_≡_};
 ghost use mathlib.Core.Bool.{cond};
 ghost use Rattle.dictionary.specs.Accepts.{accepts};

@@ -9,6 +9,7 @@
 --   number-cut         bytes that begin with a number begin with one only
 --   number-at          bytes that write n, at a place, are found there
 --   at-number          what is found is written there
+--   found-standing     and is well formed, its value and width those of its bytes
 --   at-within          its bounds; found-bounds: the same for a caller of `number_at`
 --   number-fault       nothing is found exactly when the number passes the end or its N is out of bounds
 --   part-fault         a number that fills a part of a list fails as it does in its place
@@ -26,8 +27,8 @@ use Rattle.terms.specs.Checks.{choose}
 use Rattle.numbers.specs.declared.Found.{Found}
 use Rattle.numbers.specs.declared.Found.the-variants.{Fault, Value}
 use Rattle.numbers.specs.Bytes.{Bytes, byte, little}
-use Rattle.numbers.specs.Number.{Number, numberAt, no-width, cut-off, width-zero, too-wide, NumberFault, number-past, width-off, fewest, numberOf}
-use Rattle.numbers.specs.Met.{ValueMet, Within, NumberMet}
+use Rattle.numbers.specs.Number.{Number, numberValue, numberAt, no-width, cut-off, width-zero, too-wide, NumberFault, number-past, width-off, fewest, numberOf}
+use Rattle.numbers.specs.Met.{ValueMet, Within, NumberMet, Standing}
 use Rattle.numbers.proofs.Places.{first, slice-is, bytes-slice, bytes-at}
 use Rattle.numbers.proofs.Little.{limit, limit-up, fewest-until, until-bytes, until-few, until-some, until-says, until-short, little-below}
 
@@ -163,6 +164,25 @@ stands s p e n w x =
           within = omega arith;
           width = k;
           value = ap (λ (m : ℕ). little (slice (p + 1) (p + 1 + m) s)) (sym k) ∙ j;
+        }
+
+-- what is found is well formed, and has the value and the width that its bytes say
+pub record Sound (s : List ℕ) (p e n w : ℕ) : Type 0 where
+  pub standing : Standing s p
+  pub value : n ≡ numberValue s p
+  pub width : w ≡ byte s p
+  pub within : p + 1 + byte s p ≤ e
+
+pub found-standing : (s : List ℕ) (p e n w : ℕ) → e ≤ length s → numberAt s p e ≡ Value n w → Sound s p e n w
+found-standing s p e n w he x = made (stands s p e n w x)
+  where
+    made : Stands s p e n w → Sound s p e n w
+    made t =
+        record {
+          standing = record { least = omega (arith, t .least, t .width); most = omega (arith, t .most, t .width); within = omega (arith, t .within, t .width) };
+          value = sym (ap (λ (k : ℕ). little (slice (p + 1) (p + 1 + k) s)) (t .width) ∙ t .value);
+          width = sym (t .width);
+          within = omega (arith, t .within, t .width);
         }
 
 pub at-number : (s : List ℕ) (p e n w : ℕ) → Bytes s → e ≤ length s → numberAt s p e ≡ Value n w → Number n (slice p (p + 1 + w) s)

@@ -4,13 +4,17 @@
 --   slice-take   the n elements from p on
 --   slice-is     what a list that lies at p is
 --   slice-lies   a slice lies at its place
+--   blank        an array of one value
 --   bytes-..     parts and joins of bytes are bytes, and so is a slice that the code is lent
-use mathlib.Core.Path.{_≡_, sym, ap, _∙_}
+use mathlib.Core.Path.{_≡_, refl, sym, ap, _∙_}
 use mathlib.Core.List.{List, [], _∷_, _++_}
+use mathlib.Core.Bool.{Bool, true, false}
 use Prim.Native.Nat.{ℕ, zero, suc, _+_, _<_}
 use native.Mathlib.Omega.{arith}
 use native.Mathlib.Nat.{add-zero, zero-add, suc-add}
-use lib.ListN.{length, getD, take, drop, take-append-drop}
+use lib.ListN.{length, getD, take, drop, replicate, take-append-drop, length-replicate, getD-replicate, List·getD-eq-default}
+use lib.Dec.{leb}
+use borrow.Author.Tests.{leb-true, leb-false}
 use lib.Seq.{slice, getD-drop, take-append-seam, drop-drop, take-nil}
 use mir.Syntax.{w8}
 use mir.Val.{Fits}
@@ -51,6 +55,14 @@ pub bytes-at : (s : List ℕ) (p : ℕ) → Bytes s → byte s p < 256
 bytes-at [] p h = omega arith
 bytes-at (x ∷ s) zero h = h .0
 bytes-at (x ∷ s) (suc p) h = bytes-at s p (h .1)
+
+-- an array of one value has it everywhere, past its end too
+pub blank : (n j z : ℕ) → getD (replicate n z) j z ≡ z
+blank n j z = go (leb n j) refl
+  where
+    go : (t : Bool) → leb n j ≡ t → getD (replicate n z) j z ≡ z
+    go true e = List·getD-eq-default (replicate n z) z (rw (← length-replicate n z) at (leb-true n j e))
+    go false e = getD-replicate n j z z (leb-false n j e)
 
 -- what the code knows of every slice of bytes
 pub bytes-known : (s : List ℕ) → ((p : ℕ) → Fits w8 (getD s p 0)) → Bytes s

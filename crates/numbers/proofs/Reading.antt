@@ -1,4 +1,4 @@
--- Reading bytes: what each turn of a loop and each return of `little_at`, `number_at` and `integer_at` has to show.
+-- Reading bytes: what each turn of a loop and each return of `little_at`, `number_at`, `number_value` and `integer_at` has to show.
 -- Assumes nothing.
 use mathlib.Core.Path.{_≡_, refl, sym, ap, _∙_}
 use mathlib.Core.List.{List, [], _∷_}
@@ -19,7 +19,7 @@ use Rattle.numbers.specs.declared.Integer.the-variants.{Plus, Minus}
 use Rattle.numbers.specs.Bytes.{byte, little}
 use Rattle.numbers.specs.Number.{numberAt}
 use Rattle.numbers.specs.Integer.{flip, integerOf}
-use Rattle.numbers.specs.Met.{Widened, turned, turnedByte, Summed, NumberMet, IntegerMet}
+use Rattle.numbers.specs.Met.{Widened, turned, turnedByte, Summed, NumberMet, Standing, Taken, IntegerMet}
 use Rattle.numbers.proofs.Places.{bytes-known, bytes-slice}
 use Rattle.numbers.proofs.Integers.{says-plus, says-minus, says-held}
 
@@ -86,6 +86,13 @@ module _ (s : List ℕ) (p e : ℕ) (m : Bool) where
 
 pub ruleset sum-rules = (turn-minus, sum-start, sum-mul, sum-add, sum-next, sum-done)
 
+-- the number of one byte
+one-value : (s : List ℕ) (p : ℕ) → p + 1 ≤ length s → little (slice p (p + 1) s) ≡ byte s p
+unfolding little
+one-value s p h =
+    let c : slice p (p + 1) s ≡ byte s p ∷ [] = slice-cons p (p + 1) s 0 (omega arith) h ∙ ap (λ (i : ℕ). byte s p ∷ slice i (p + 1) s) (sym (add-one p)) ∙ ap (λ (r : List ℕ). byte s p ∷ r) (slice-empty (p + 1) s) in
+    ap little c ∙ omega arith
+
 -- what stands where a number is due, by the tests in their order
 module _ (s : List ℕ) (p e : ℕ) where
   pub found-none : e ≤ p → NumberMet s p e (Fault 4)
@@ -135,15 +142,28 @@ module _ (s : List ℕ) (p e : ℕ) where
     found-cut-one l g = found-cut (omega arith) (omega arith) (omega arith)
 
     pub found-one : (v : ℕ) → n ≡ 1 → 1 ≤ e - (p + 1) → e ≤ length s → Widened (byte s (p + 1)) v → NumberMet s p e (Value v 1)
-    unfolding little
     found-one v l g k t =
-        let c : slice (p + 1) (p + 1 + 1) s ≡ byte s (p + 1) ∷ [] = slice-cons (p + 1) (p + 1 + 1) s 0 (omega arith) (omega arith) ∙ ap (λ (i : ℕ). byte s (p + 1) ∷ slice i (p + 1 + 1) s) (sym (add-one (p + 1))) ∙ ap (λ (r : List ℕ). byte s (p + 1) ∷ r) (slice-empty (p + 1 + 1) s) in
-        let q : v ≡ little (slice (p + 1) (p + 1 + 1) s) = t .same ∙ sym (ap little c ∙ omega arith) in
+        let q : v ≡ little (slice (p + 1) (p + 1 + 1) s) = t .same ∙ sym (one-value s (p + 1) (omega arith)) in
         let f : p + 1 + 1 - (p + 1) ≡ 1 = omega arith in
         let z : v < 256 ^ (p + 1 + 1 - (p + 1)) = rw f (omega (arith, t .small)) in
         rw l at (found-value v (omega arith) (omega arith) (omega arith) (rw l (record { same = q; small = z })))
 
 pub ruleset found-rules = (found-none, found-cut-one, found-one, found-narrow, found-wide, found-cut, found-value)
+
+-- the value of a number that is known to be well formed
+module _ (s : List ℕ) (p n v : ℕ) (h : Standing s p) (w : Widened (byte s p) n) where
+  pub taken-one : n ≡ 1 → Widened (byte s (p + 1)) v → Taken s p v
+  taken-one l t =
+      let e : byte s p ≡ 1 = omega (arith, w .same) in
+      record { same = rw e (t .same ∙ sym (one-value s (p + 1) (omega (arith, h .within)))); small = omega (arith, t .small) }
+
+  pub taken-more : Summed s (p + 1) (p + 1 + n) false v → Taken s p v
+  taken-more t =
+      let f : p + 1 + n - (p + 1) ≡ n = omega arith in
+      let z : v < 256 ^ n = rw f at (t .small) in
+      record { same = rw (← w .same) (t .same); small = omega (arith, z, powers n 4 (omega (arith, h .most, w .same))) }
+
+pub ruleset taken-rules = (taken-one, taken-more)
 
 -- the highest byte of a part
 slice-top : (s : List ℕ) (p e : ℕ) → p + 1 ≤ e → e ≤ length s → byte (slice p e s) (length (slice p e s) - 1) ≡ byte s (e - 1)

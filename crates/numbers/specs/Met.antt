@@ -4,6 +4,7 @@
 --   turned m v          the bytes, complemented where m holds
 --   Summed              the number that bytes say
 --   NumberMet           what stands where a number is due, with its bounds
+--   Standing, Taken     a number that is known to be well formed, and its value
 --   IntegerMet          the integer that bytes say, which 8 bytes hold
 --   tooLarge, capped    the least number that is too large for any integer; a number, or that one
 --   next                a number with one digit more
@@ -17,8 +18,8 @@ use lib.Seq.{sets, slice}
 use Rattle.terms.specs.Limits.{numberLeast, numberMost}
 use Rattle.numbers.specs.declared.Found.{Found}
 use Rattle.numbers.specs.declared.Found.the-variants.{Fault, Value}
-use Rattle.numbers.specs.Bytes.{little}
-use Rattle.numbers.specs.Number.{numberAt}
+use Rattle.numbers.specs.Bytes.{byte, little}
+use Rattle.numbers.specs.Number.{numberValue, numberAt}
 use Rattle.numbers.specs.Integer.{flip, integerOf, Held}
 use Rattle.numbers.specs.Decimal.{below}
 use Rattle.numbers.specs.declared.Integer.{Integer}
@@ -65,6 +66,16 @@ Within p e (Value n w) = ValueMet p e n w
 pub record NumberMet (s : List ℕ) (p e : ℕ) (r : Found) : Type 0 where
   pub same : r ≡ numberAt s p e
   pub met : Within p e r
+
+-- a number stands at p, whole
+pub record Standing (s : List ℕ) (p : ℕ) : Type 0 where
+  pub least : numberLeast ≤ byte s p
+  pub most : byte s p ≤ numberMost
+  pub within : p + 1 + byte s p ≤ length s
+
+pub record Taken (s : List ℕ) (p r : ℕ) : Type 0 where
+  pub same : r ≡ numberValue s p
+  pub small : r < 2 ^ 32
 
 pub record IntegerMet (v : List ℕ) (r : Integer) : Type 0 where
   pub same : r ≡ integerOf v

@@ -1,5 +1,6 @@
 -- Document 01, "The payload": "A non-negative number: one byte N, then N bytes. N is 1 to 4 (house); leading zeros are taken."
 --   Number n b       the bytes b write the number n
+--   numberValue s p  the value of the number that stands at p, if one does; its width is the byte there
 --   numberAt s p e   the number that stands at p and has to end by e: its value and its width N, or the refusal
 --   NumberPast       the number due at p passes e; WidthOff: its N is out of bounds; NumberFault: the one or the other, with its refusal
 --   numberOf n       the shortest bytes that write n
@@ -24,6 +25,9 @@ pub record Number (n : ℕ) (b : List ℕ) : Type 0 where
   pub bytes : Bytes digits
   pub says : little digits ≡ n
 
+abbrev pub numberValue : List ℕ → ℕ → ℕ
+numberValue s p = little (slice (p + 1) (p + 1 + byte s p) s)
+
 -- "In a number, N is judged before its bytes": no byte for N is 4, N outside its limits 5, bytes missing 4
 unfoldable pub numberAt : List ℕ → ℕ → ℕ → Found
 numberAt s p e =
@@ -31,7 +35,7 @@ numberAt s p e =
     choose (ltb (byte s p) numberLeast) (λ _. Fault widthWrong) λ _.
     choose (ltb numberMost (byte s p)) (λ _. Fault widthWrong) λ _.
     choose (ltb (e - (p + 1)) (byte s p)) (λ _. Fault pastEnd) λ _.
-    Value (little (slice (p + 1) (p + 1 + byte s p) s)) (byte s p)
+    Value (numberValue s p) (byte s p)
 
 -- "4: a field passes the end": no byte is left for N, or fewer than N after it
 pub data NumberPast (s : List ℕ) (p e : ℕ) : Type 0 where

@@ -13,7 +13,7 @@ ghost use Rattle.numbers.specs.Bytes.{lowest};
 ghost use Rattle.numbers.specs.Number.{fewest, numberOf};
 ghost use Rattle.numbers.specs.Integer.{Held, clear, briefOf};
 ghost use Rattle.numbers.specs.Decimal.{decimal, decimalOf, digitsOnly, integral, valueFrom, integerSaid};
-ghost use Rattle.numbers.specs.Met.{Wrote, Widened, turnedByte, Summed, NumberMet, IntegerMet, plusSaid, minusSaid, next, capped, tooLarge};
+ghost use Rattle.numbers.specs.Met.{Wrote, Widened, turnedByte, Summed, NumberMet, Standing, Taken, IntegerMet, plusSaid, minusSaid, next, capped, tooLarge};
 
 // What stands where a number is due: a refusal's number, or the value and the width N.
 pub enum Found {
@@ -56,7 +56,7 @@ fn turn(x: u8, minus: bool) -> u64
 }
 
 // From the highest byte down, so that no power of 256 is kept.
-fn little_at(s: &[u8], at: usize, end: usize, minus: bool) -> u64
+pub fn little_at(s: &[u8], at: usize, end: usize, minus: bool) -> u64
     requires { ⌜ (at ≤ end) × (end ≤ at + 8) × (end ≤ length (now s)) ⌝ }
     ensures { λ r. ⌜ Summed (now (s .entry)) at end minus r ⌝ }
 {
@@ -98,6 +98,19 @@ pub fn number_at(s: &[u8], at: usize, end: usize) -> Found
     Found::Value(little_at(s, from, from + n, false) as usize, n)
 }
 
+// The value of a number that is known to be well formed: nothing is judged. Its width is its first byte.
+pub fn number_value(s: &[u8], at: usize) -> usize
+    requires { ⌜ Standing (now s) at ⌝ }
+    ensures { λ r. ⌜ Taken (now (s .entry)) at r ⌝ }
+{
+    let from = at + 1;
+    let n = wide(s[at]);
+    if n == 1 {
+        return wide(s[from]);
+    }
+    little_at(s, from, from + n, false) as usize
+}
+
 pub fn integer_at(s: &[u8], at: usize, end: usize) -> Integer
     requires { ⌜ (at + 1 ≤ end) × (end ≤ at + 8) × (end ≤ length (now s)) ⌝ }
     ensures { λ r. ⌜ IntegerMet (slice at end (now (s .entry))) r ⌝ }
@@ -117,7 +130,7 @@ pub fn put(out: &mut [u8], pos: usize, x: u8) -> usize
 }
 
 // The k lowest bytes of n, the least first.
-fn put_lowest(out: &mut [u8], pos: usize, n: u64, k: usize) -> usize
+pub fn put_lowest(out: &mut [u8], pos: usize, n: u64, k: usize) -> usize
     requires { ⌜ pos + k ≤ length (now out) ⌝ }
     ensures { λ r. ⌜ Wrote (now (out .entry)) pos (lowest k n) r (now (out .exit)) ⌝ }
 {

@@ -17,3 +17,4 @@ pub mod Refused
 pub mod First
 pub mod Given
 pub mod Longest
+pub mod Steps

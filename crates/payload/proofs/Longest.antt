@@ -1,5 +1,6 @@
--- How long a text can be: no more than 104 bytes for each byte of its payload, so that sums of lengths fit.
+-- How long a text can be: no more than 104 bytes for each byte of its payload, so that sums of lengths fit; and how many tuples there can be.
 -- Assumes nothing.
+--   count-few      no more tuples than bytes
 --   name-long      a name has at most 254 bytes
 --   text-long      of tuples
 --   root-long      of a payload
@@ -18,13 +19,13 @@ use Rattle.numbers.proofs.Places.{bytes-at}
 use Rattle.numbers.proofs.Decimals.{decimal-few}
 use Rattle.dictionary.specs.Rows.{nameLength, nameOffset, name, rowAt}
 use Rattle.dictionary.specs.Children.{childNumbered}
-use Rattle.payload.specs.Tree.{Scalar, null, integer, option, string, boolean, Shape, aSet, Tuples, none, scalar, inner}
+use Rattle.payload.specs.Tree.{Scalar, null, integer, option, string, boolean, Shape, aSet, Tuples, none, scalar, inner, count}
 use Rattle.payload.specs.Writes.{Cut, Tuple, Holds, Writes, Payload}
 use Rattle.payload.specs.Fits.{isSet, child, rowOf}
 use Rattle.payload.specs.Text.{quoted, colon, opens, closes, word, label, commaAt, textOf, rootText}
 use Rattle.payload.proofs.Lying.{number-long}
 
-decimal-long : (i : Integer) → length (decimalOf i) ≤ 21
+pub decimal-long : (i : Integer) → length (decimalOf i) ≤ 21
 unfolding decimalOf
 decimal-long (Plus n) = let h = decimal-few n in omega arith
 decimal-long (Minus n) = let h = decimal-few (n + 1) in omega arith
@@ -32,6 +33,35 @@ decimal-long (Minus n) = let h = decimal-few (n + 1) in omega arith
 comma-long : (i : ℕ) → length (commaAt i) ≤ 1
 comma-long zero = omega arith
 comma-long (suc i) = omega arith
+
+-- a tuple has five bytes beside its value
+pub tuple-size : (n f : ℕ) {P : List ℕ → Type 0} (b : List ℕ) (t : Tuple n f P b) → 5 + length (t .rest .rest .value) ≤ length b
+tuple-size n f b t =
+    let z = t .rest .rest in
+    omega (
+      arith,
+      ap length (t .whole),
+      length-append (t .front) (t .back),
+      number-long (t .here),
+      ap length (t .rest .whole),
+      length-append (t .rest .front) (t .rest .back),
+      ap length (t .rest .here .whole),
+      ap length (z .whole),
+      length-append (z .length-bytes) (z .value),
+      number-long (z .long),
+    )
+
+pub cut-size : {P Q : List ℕ → Type 0} (b : List ℕ) (c : Cut P Q b) → length b ≡ length (c .front) + length (c .back)
+cut-size b c = omega (arith, ap length (c .whole), length-append (c .front) (c .back))
+
+-- so no run has as many tuples as bytes
+pub count-few : (t : Tuples) (b : List ℕ) → Writes t b → count t ≤ length b
+unfolding Writes count
+count-few none b w = omega arith
+count-few (scalar n x r) b w = omega (arith, count-few r (w .back) (w .rest), tuple-size n _ (w .front) (w .here), cut-size b w)
+count-few (inner n g kids r) b w =
+    let v = w .here .rest .rest in
+    omega (arith, count-few kids (v .here .back) (v .here .rest), count-few r (w .back) (w .rest), tuple-size n _ (w .front) (w .here), cut-size b w, cut-size (v .value) (v .here))
 
 module _ (d : List ℕ) (hb : Bytes d) where
   pub name-long : (r : ℕ) → length (name d r) ≤ 254
@@ -60,26 +90,6 @@ module _ (d : List ℕ) (hb : Bytes d) where
   word-long row (string t) v h = omega (arith, ap length (h .whole), length-append t (0 ∷ []), length-append t (34 ∷ []))
   word-long row (boolean true) v h = omega arith
   word-long row (boolean false) v h = omega arith
-
-  -- a tuple has five bytes beside its value
-  tuple-size : (n f : ℕ) {P : List ℕ → Type 0} (b : List ℕ) (t : Tuple n f P b) → 5 + length (t .rest .rest .value) ≤ length b
-  tuple-size n f b t =
-      let z = t .rest .rest in
-      omega (
-        arith,
-        ap length (t .whole),
-        length-append (t .front) (t .back),
-        number-long (t .here),
-        ap length (t .rest .whole),
-        length-append (t .rest .front) (t .rest .back),
-        ap length (t .rest .here .whole),
-        ap length (z .whole),
-        length-append (z .length-bytes) (z .value),
-        number-long (z .long),
-      )
-
-  cut-size : {P Q : List ℕ → Type 0} (b : List ℕ) (c : Cut P Q b) → length b ≡ length (c .front) + length (c .back)
-  cut-size b c = omega (arith, ap length (c .whole), length-append (c .front) (c .back))
 
   bracketed : (g : Shape) (t : List ℕ) → length (opens g ∷ (t ++ (closes g ∷ []))) ≡ 2 + length t
   bracketed g t = omega (arith, length-append t (closes g ∷ []))

@@ -3,12 +3,14 @@
 --   In n seen                  n is one of the numbers seen; among-in: the test
 --   known-set, known-array     which numbers are known in the value of a row; child-set, child-array: and their rows
 --   fresh-set, fresh-array     none twice, in a set
+--   known-found, known-index, child-found, fresh-among, label-set, label-array, fits-kind   the tests and a member's label, by the row's format
 --   fits-null, fits-own        which formats fit a row
 --   option-known               which options an enum's row allows
+--   holder                     a set or an array is a row with children
 --   child-inside               the row of a known number is a row of the dictionary
 use mathlib.Core.Path.{_≡_, refl, sym, ap, _∙_}
 use mathlib.Core.Logic.{_↔_, _⊎_, inl, inr}
-use mathlib.Core.List.{List, [], _∷_}
+use mathlib.Core.List.{List, [], _∷_, _++_}
 use mathlib.Core.Bool.{Bool, true, false, not, _||_, true≢false}
 use Prim.Native.Nat.{ℕ, _+_, _<_}
 use native.Mathlib.Omega.{arith}
@@ -17,13 +19,14 @@ use borrow.Author.Tests.{ltb-true, ltb-false, eqb-true, eqb-false, eq-eqb, ne-eq
 use Rattle.terms.specs.Tests.{among}
 use Rattle.terms.proofs.Tests.{so-not, not-so}
 use Rattle.dictionary.specs.Formats.{setForm, arrayForm, nullForm}
-use Rattle.dictionary.specs.Rows.{entries, kind, nullable, firstChild, childCount}
+use Rattle.dictionary.specs.Rows.{entries, kind, nullable, firstChild, childCount, name}
 use Rattle.dictionary.specs.Accepts.{accepts}
 use Rattle.dictionary.specs.Children.{childNumbered}
 use Rattle.dictionary.specs.Given.{parent, Family}
 use Rattle.dictionary.proofs.Laws.{number-known, number-unknown, accepted-family, accepted-array}
 use Rattle.payload.specs.Tree.{option}
-use Rattle.payload.specs.Fits.{found, known, child, fresh, fits, allowed}
+use Rattle.payload.specs.Fits.{found, rowOf, known, child, fresh, fits, allowed}
+use Rattle.payload.specs.Text.{quoted, colon, label}
 
 abbrev pub In : ℕ → List ℕ → Type 0
 In n [] = ⊥
@@ -85,6 +88,38 @@ module _ (d : List ℕ) (row n : ℕ) where
     unfolding fresh
     fresh-array seen = rw (ne-eqb (kind d row) 0 k)
 
+-- the tests themselves, by the row's format
+module _ (d : List ℕ) (row n : ℕ) where
+  module _ (k : kind d row ≡ setForm) where
+    pub known-found : (i : ℕ) → known d row i n ≡ found (childNumbered d row n)
+    unfolding known
+    known-found i = rw (eq-eqb (kind d row) 0 k)
+
+    pub child-found : child d row n ≡ rowOf (childNumbered d row n)
+    unfolding child
+    child-found = rw (eq-eqb (kind d row) 0 k)
+
+    pub fresh-among : (seen : List ℕ) → fresh d row seen n ≡ not (among n seen)
+    unfolding fresh
+    fresh-among seen = rw (eq-eqb (kind d row) 0 k)
+
+    pub label-set : label d row n ≡ quoted (name d (child d row n)) ++ (colon ∷ [])
+    unfolding label
+    label-set = rw (eq-eqb (kind d row) 0 k)
+
+  module _ (k : kind d row ≡ setForm → ⊥) where
+    pub known-index : (i : ℕ) → known d row i n ≡ eqb n i
+    unfolding known
+    known-index i = rw (ne-eqb (kind d row) 0 k)
+
+    pub label-array : label d row n ≡ []
+    unfolding label
+    label-array = rw (ne-eqb (kind d row) 0 k)
+
+pub fits-kind : (d : List ℕ) (row f : ℕ) → (f ≡ nullForm → ⊥) → fits d row f ≡ eqb f (kind d row)
+unfolding fits
+fits-kind d row f h = rw (ne-eqb f 2 h)
+
 pub fits-null : (d : List ℕ) (row : ℕ) → fits d row nullForm ≡ nullable d row
 unfolding fits
 fits-null d row = refl
@@ -94,7 +129,7 @@ unfolding fits
 fits-own d row f h = rw (ne-eqb f 2 h) (λ e. eqb-true f (kind d row) e, λ e. eq-eqb f (kind d row) e)
 
 -- a set or an array has children
-holder : (d : List ℕ) (row : ℕ) → kind d row < 2 → parent d row ≡ true
+pub holder : (d : List ℕ) (row : ℕ) → kind d row < 2 → parent d row ≡ true
 unfolding parent
 holder d row h = go (eqb (kind d row) 0) refl
   where

@@ -1,3 +1,4 @@
 -- Laws that the crates above cite.
 pub mod Tests
 pub mod Checks
+pub mod Lending

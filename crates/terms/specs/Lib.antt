@@ -2,3 +2,4 @@ pub mod Limits
 pub mod Refusals
 pub mod Checks
 pub mod Tests
+pub mod Lending

@@ -1,0 +1,13 @@
+-- `desk::records::due_sound` meets its contract.
+-- Assumes nothing.
+use Rattle.desk.specs.Record.{dueSound}
+use borrow.Author.Needs.{needs}
+use Rattle.desk.proofs.records.due_sound.Statement.{statement}
+use Rattle.desk.proofs.records.due_sound.Tie as tie
+
+returns : tie.Need-returns
+unfolding dueSound
+returns c = cc
+
+pub due-sound-spec : {M : Type 1} → statement M
+due-sound-spec = tie.close (tie.spec (λ c κs. search needs) returns)

@@ -1,0 +1,20 @@
+-- `deskcalls::feed` meets its contract.
+-- Assumes nothing.
+use Rattle.deskcalls.proofs.Serving.{serving}
+use borrow.Author.Needs.{needs}
+use Rattle.deskcalls.proofs.feed.Statement.{statement}
+use Rattle.deskcalls.proofs.feed.Tie as tie
+
+pub feed-spec : {M : Type 1} → statement M
+feed-spec =
+    tie.close
+    (tie.spec
+    (λ c κs. search needs)
+    (λ c. search needs)
+    (λ c. search needs)
+    (λ c. search (serving, needs))
+    (λ c κs. search needs)
+    (λ c κs. search needs)
+    (λ c. search needs)
+    (λ c. search needs)
+    (λ c. search (serving, needs)))

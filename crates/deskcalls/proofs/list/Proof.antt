@@ -1,0 +1,38 @@
+-- `deskcalls::list` meets its contract. The loop keeps that the first i numbers are laid.
+-- Assumes nothing.
+use Prim.Native.Nat.{_-_}
+use Rattle.desk.proofs.Scanning.{unmapped}
+use Rattle.deskcalls.specs.Met.{Laying}
+use Rattle.deskcalls.proofs.Serving.{lists}
+use borrow.Author.Needs.{needs}
+use Rattle.deskcalls.proofs.list.Statement.{statement}
+use Rattle.deskcalls.proofs.list.Tie as tie
+
+abbrev Inv-loop : tie.InvT-loop
+Inv-loop bytes operations₀ l i₀ operations i = Laying (l .operations) operations₀ i operations
+
+abbrev μ-loop : tie.MeasureT-loop
+μ-loop bytes operations₀ l i₀ operations i = 8 - i
+
+pub list-spec : {M : Type 1} → statement M
+list-spec =
+    tie.close
+    (tie.spec
+    Inv-loop
+    μ-loop
+    (λ c κs. search needs)
+    (λ c. search needs)
+    (λ c. search (lists, needs))
+    (λ c κs. search needs)
+    (λ c. search needs)
+    (λ c. search (lists, needs, c .if2 .taken))
+    (λ c. search (lists, needs))
+    (λ c. search needs)
+    (λ c. search needs)
+    (λ c κs. search needs)
+    (λ c. search needs)
+    (λ c. search needs)
+    (λ c. search (lists, needs))
+    (λ c. search needs)
+    (λ c. search (lists, needs, unmapped))
+    (λ c. search (lists, needs)))

@@ -1,0 +1,21 @@
+-- `judging::words::word_at` meets its contract: a scalar of each format.
+-- Assumes nothing.
+use borrow.Author.Needs.{needs}
+use Rattle.judging.proofs.Scalars.{words}
+use Rattle.judging.proofs.words.word_at.Statement.{statement}
+use Rattle.judging.proofs.words.word_at.Tie as tie
+
+pub word-at-spec : {M : Type 1} → statement M
+word-at-spec =
+    tie.close
+    (tie.spec
+    (λ c. search (words, needs))
+    (λ c. search (words, needs))
+    (λ c κs. search (words, needs))
+    (λ c. search (words, needs))
+    (λ c κs. search (words, needs))
+    (λ c. search (words, needs))
+    (λ c κs. search (words, needs))
+    (λ c. search (words, needs))
+    (λ c κs. search (words, needs))
+    (λ c. search (words, needs)))

@@ -1,0 +1,10 @@
+-- `roll::given` meets its contract: the bit of a row, read.
+-- Assumes nothing.
+use borrow.Author.Needs.{needs}
+use Rattle.roll.proofs.Bits.{bits-rules}
+use Rattle.roll.proofs.given.Statement.{statement}
+use Rattle.roll.proofs.given.Tie as tie
+
+pub given-spec : {M : Type 1} → statement M
+given-spec =
+    tie.close (tie.spec (λ c. search (bits-rules, needs)) (λ c κs. search (bits-rules, needs)) (λ c κs. search (bits-rules, needs)) (λ c. search (bits-rules, needs)) (λ c. search (bits-rules, needs)))
