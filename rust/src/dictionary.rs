@@ -18,27 +18,37 @@ pub const ENUM: u8 = 4;
 pub const STRING: u8 = 5;
 pub const BOOLEAN: u8 = 7;
 
-struct Row<'a> {
-    format: u8,
+pub struct Row<'a> {
+    pub format: u8,
+    pub nullable: bool,
     sequence: usize,
     child_offset: usize,
-    child_count: usize,
+    pub child_count: usize,
     /// Without its closing 00; empty where the row has no name.
-    name: &'a [u8],
+    pub name: &'a [u8],
+}
+
+impl Row<'_> {
+    /// Of a row that has children, in an accepted dictionary.
+    pub fn first_child(&self) -> usize {
+        (self.child_offset - HEADER) / ENTRY
+    }
 }
 
 /// Whether the dictionary is accepted.
 pub fn accepts(bytes: &[u8]) -> bool {
-    match rows(bytes) {
-        Some(rows) => {
-            rows[0].format == SET && rows.iter().all(|row| children_are_right(row, &rows))
-        }
-        None => false,
-    }
+    rows(bytes).is_some()
+}
+
+/// The rows of an accepted dictionary.
+pub fn rows(bytes: &[u8]) -> Option<Vec<Row<'_>>> {
+    let rows = spelt(bytes)?;
+    let right = rows[0].format == SET && rows.iter().all(|row| children_are_right(row, &rows));
+    right.then_some(rows)
 }
 
 /// The rows, where header and names are right.
-fn rows(bytes: &[u8]) -> Option<Vec<Row<'_>>> {
+fn spelt(bytes: &[u8]) -> Option<Vec<Row<'_>>> {
     if !(LEAST..=MOST).contains(&bytes.len()) {
         return None;
     }
@@ -57,6 +67,7 @@ fn rows(bytes: &[u8]) -> Option<Vec<Row<'_>>> {
 fn row<'a>(bytes: &'a [u8], names: usize, entry: &[u8]) -> Option<Row<'a>> {
     Some(Row {
         format: entry[0] >> 4,
+        nullable: entry[0] & 4 == 4,
         sequence: two(entry, 1),
         child_offset: two(entry, 3),
         child_count: two(entry, 5),

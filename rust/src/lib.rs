@@ -1,13 +1,19 @@
 //! Tests and measurements of the proved functions against plain Rust.
 //!
 //! - `dictionary`: document 01's rules for a dictionary, held by plain Rust: the rival.
+//! - `reader`, `writer`, `desk`: document 01's reader, writer and desk, held by plain Rust: rivals.
 //! - `proved`: the proved functions, called through their C boundary.
 //! - `figure`: the dictionary of DSP0218's Figure 6.
-//! - `make`: dictionaries for both to judge: ordinary, small, hostile and damaged ones.
+//! - `make`: dictionaries and payloads for both to judge: ordinary, small, hostile and damaged ones.
+//! - `timing`: ratios of times taken in one run.
 //! - `random`: the numbers that the makers draw, the same for the same seed on every machine.
 
+pub mod desk;
 pub mod dictionary;
 pub mod figure;
 pub mod make;
 pub mod proved;
 pub mod random;
+pub mod reader;
+pub mod timing;
+pub mod writer;

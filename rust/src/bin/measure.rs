@@ -4,10 +4,11 @@
 //! 2. proved on a hostile dictionary of the most bytes to proved on an ordinary one, for the worst
 //!    of each family that a search finds, and for the worst of all.
 
-use std::time::{Duration, Instant};
+use std::time::Duration;
 use trials::dictionary::MOST;
 use trials::make::hostile::{families, family, Blocks, Ending, Hostile};
 use trials::make::ordinary;
+use trials::timing::{quickest, ratio};
 use trials::{dictionary, proved};
 
 type Checker = fn(&[u8]) -> bool;
@@ -19,9 +20,12 @@ fn main() {
     println!("proved / rival, ordinary dictionaries of 10 KiB");
     for seed in 1..=3 {
         let bytes = ordinary::dictionary(10_240, seed);
-        let ratio =
-            ratio(2_001, (proved::dictionary_accepts, &bytes), (dictionary::accepts, &bytes));
-        println!("  seed {seed}: {ratio:.2}");
+        let both = ratio(
+            2_001,
+            call(proved::dictionary_accepts, &bytes),
+            call(dictionary::accepts, &bytes),
+        );
+        println!("  seed {seed}: {both:.2}");
     }
     println!("proved on the worst hostile / proved on an ordinary dictionary, {MOST} bytes each");
     let ordinary = ordinary::dictionary(MOST, 1);
@@ -30,10 +34,10 @@ fn main() {
         let hostile = search(blocks);
         let bytes = hostile.dictionary(MOST).expect("the search found it");
         let judge: Checker = proved::dictionary_accepts;
-        let ratio = ratio(21, (judge, &bytes), (judge, &ordinary));
-        println!("  {ratio:8.2}  {hostile:?}");
-        if ratio > worst.0 {
-            worst = (ratio, Some(hostile));
+        let both = ratio(21, call(judge, &bytes), call(judge, &ordinary));
+        println!("  {both:8.2}  {hostile:?}");
+        if both > worst.0 {
+            worst = (both, Some(hostile));
         }
     }
     if let (ratio, Some(hostile)) = worst {
@@ -71,36 +75,16 @@ impl Worst {
             None => return,
         };
         // One slow call may be the machine's doing, three are not.
-        let mut quickest = Duration::MAX;
-        for _ in 0..3 {
-            quickest = quickest.min(time(proved::dictionary_accepts, &bytes));
-            if quickest <= self.time {
-                return;
-            }
+        let time = quickest(3, call(proved::dictionary_accepts, &bytes));
+        if time > self.time {
+            *self = Worst { time, hostile: Some(hostile) };
         }
-        *self = Worst { time: quickest, hostile: Some(hostile) };
     }
 }
 
-/// The ratio of the medians of single calls, made by turns.
-fn ratio(rounds: usize, first: (Checker, &[u8]), second: (Checker, &[u8])) -> f64 {
-    let mut times = [Vec::new(), Vec::new()];
-    for _ in 0..rounds {
-        times[0].push(time(first.0, first.1));
-        times[1].push(time(second.0, second.1));
+/// The makers know the answers and the tests hold the checkers to them.
+fn call(accepts: Checker, bytes: &[u8]) -> impl FnMut() + '_ {
+    move || {
+        let _ = accepts(bytes);
     }
-    let [first, second] = times.map(median);
-    first.as_secs_f64() / second.as_secs_f64()
-}
-
-fn median(mut times: Vec<Duration>) -> Duration {
-    times.sort();
-    times[times.len() / 2]
-}
-
-fn time(accepts: Checker, bytes: &[u8]) -> Duration {
-    let start = Instant::now();
-    // The makers know the answers and the tests hold the checkers to them.
-    let _ = accepts(bytes);
-    start.elapsed()
 }
