@@ -1,4 +1,4 @@
-// Runs a script of one desk, line by line: ../shared/vectors/README.md has its form. The desk is fresh and the store all zeros at first; a
+// Runs a script of one desk, line by line: docs/BENCH.md has its form. The desk is fresh and the store all zeros at first; a
 // malformed line answers `?`, and an empty one nothing.
 use lines::NUMBER_MOST;
 use lines::SPACE;
