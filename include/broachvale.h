@@ -24,6 +24,12 @@ uint32_t broachvale_read(const uint8_t *dictionary, size_t dictionary_length,
                          const uint8_t *payload, size_t payload_length, size_t budget,
                          uint8_t *text, size_t text_length, size_t *told, size_t told_count);
 
+/* JSON text to the shortest BEJ. told[0], told[1], told[2]: place of the refusal, count of tuples, length of the payload, as far
+ * as told has room. */
+uint32_t broachvale_write(const uint8_t *dictionary, size_t dictionary_length,
+                          const uint8_t *text, size_t text_length,
+                          uint8_t *payload, size_t payload_length, size_t *told, size_t told_count);
+
 /* A desk is 128 bytes, all 0 for an empty one, and has a store of 32,768 bytes; both are the caller's to keep. */
 #define BROACHVALE_DESK_BYTES 128
 #define BROACHVALE_STORE_BYTES 32768

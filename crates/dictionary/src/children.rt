@@ -50,10 +50,10 @@ fn is_named(d: &[u8], row: usize, text: &[u8]) -> bool
 {
     let own = name_of(d, row);
     let size = text.len();
-    if own.len() != size {
-        return false;
+    if own.len() == size {
+        return same_bytes(own, 0, text, 0, size);
     }
-    same_bytes(own, 0, text, 0, size)
+    false
 }
 
 pub fn child_named(d: &[u8], row: usize, text: &[u8]) -> Child

@@ -3,6 +3,7 @@ use terms::Answer;
 ghost use mathlib.Core.Path.{_≡_};
 ghost use lib.ListN.{length, set};
 ghost use Rattle.payload.specs.Reading.{reads};
+ghost use Rattle.text.specs.Writing.{writes};
 ghost use Rattle.exports.specs.Exported.{Exported, Told};
 
 // Lays one value into a row, where the row has that place.
@@ -35,5 +36,18 @@ pub extern "C" fn broachvale_read(
     ensures { λ r. ⌜ Exported (reads (now (dictionary .entry)) (now (payload .entry)) budget (length (now (text .entry)))) (now (text .entry)) (now (told .entry)) r (now (text .exit)) (now (told .exit)) ⌝ }
 {
     let a = reader::read(dictionary, payload, budget, text);
+    tell(a, told)
+}
+
+#[no_mangle]
+pub extern "C" fn broachvale_write(
+    dictionary: &[u8],
+    text: &[u8],
+    payload: &mut [u8],
+    told: &mut [usize],
+) -> u32
+    ensures { λ r. ⌜ Exported (writes (now (dictionary .entry)) (now (text .entry)) (length (now (payload .entry)))) (now (payload .entry)) (now (told .entry)) r (now (payload .exit)) (now (told .exit)) ⌝ }
+{
+    let a = writer::write(dictionary, text, payload);
     tell(a, told)
 }

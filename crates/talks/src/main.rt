@@ -53,6 +53,12 @@ struct Word {
     record: desk::Record,
 }
 
+// A desk that a line's words spell, or not good.
+struct Words {
+    good: bool,
+    desk: desk::Desk,
+}
+
 fn both(a: bool, b: bool) -> bool {
     if a { b } else { false }
 }
@@ -408,10 +414,10 @@ fn record_at(line: &[u8], k: usize) -> Word {
     record_of(&line[from..end])
 }
 
-fn desk_of(line: &[u8]) -> desk::Spelt {
+fn desk_of(line: &[u8]) -> Words {
     let mut d = fresh();
     if lines::separators(line, SPACE) != DESK_MOST {
-        return desk::Spelt {
+        return Words {
             good: false,
             desk: d,
         };
@@ -420,7 +426,7 @@ fn desk_of(line: &[u8]) -> desk::Spelt {
     while i < DESK_MOST {
         let w = record_at(line, i + 1);
         if !w.good {
-            return desk::Spelt {
+            return Words {
                 good: false,
                 desk: d,
             };
@@ -429,7 +435,7 @@ fn desk_of(line: &[u8]) -> desk::Spelt {
         d.records[i] = r;
         i += 1;
     }
-    desk::Spelt {
+    Words {
         good: true,
         desk: d,
     }

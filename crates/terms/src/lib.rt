@@ -8,6 +8,8 @@ pub const PAYLOAD_LEAST: usize = 7;
 
 pub const PAYLOAD_MOST: usize = 16384;
 
+pub const TEXT_LEAST: usize = 1;
+
 pub const TEXT_MOST: usize = 65535;
 
 pub const DEPTH_MOST: usize = 16;
@@ -55,6 +57,8 @@ pub const BUDGET_SPENT: u8 = 12;
 pub const AFTER_ROOT: u8 = 13;
 
 pub const NO_ROOM: u8 = 14;
+
+pub const BAD_TEXT: u8 = 15;
 
 pub const NOT_SOUND: u8 = 20;
 

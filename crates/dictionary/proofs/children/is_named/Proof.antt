@@ -6,4 +6,4 @@ use Rattle.dictionary.proofs.children.is_named.Tie as tie
 use borrow.Author.Needs.{needs}
 
 pub is-named-spec : {M : Type 1} → statement M
-is-named-spec = tie.close (tie.spec (λ c κs. search needs) (λ c. search (comparing, needs)) (λ c κs. search needs) (λ c. search (comparing, needs)))
+is-named-spec = tie.close (tie.spec (λ c κs. search needs) (λ c κs. search needs) (λ c. search (comparing, needs)) (λ c. search (comparing, needs)))
