@@ -1,5 +1,5 @@
-/* Decodes the case on standard input (name, dictionary hex, payload hex, budget, parted by tabs) with the linked library, and takes one
- * operation of a desk from open to close. */
+/* Decodes the case on standard input (name, dictionary hex, payload hex, budget, parted by tabs) with the linked library, encodes its text
+ * again, and takes one operation of a desk from open to close. */
 #include "broachvale.h"
 #include <stdio.h>
 #include <stdlib.h>
@@ -37,8 +37,8 @@ static int operate(void)
 int main(void)
 {
     static char line[65537];
-    static uint8_t dictionary[32768], payload[32768], text[65535];
-    size_t told[3];
+    static uint8_t dictionary[32768], payload[32768], text[65535], back[16384];
+    size_t told[3], length;
     if (fgets(line, sizeof line, stdin) == NULL || strtok(line, "\t") == NULL)
         return 2;
     size_t d = unhex(strtok(NULL, "\t"), dictionary, sizeof dictionary);
@@ -49,7 +49,10 @@ int main(void)
         printf("refused: %u at %zu\n", (unsigned)number, told[0]);
         return 1;
     }
-    printf("%zu tuples: %.*s\n", told[1], (int)told[2], (const char *)text);
+    length = told[2];
+    printf("%zu tuples: %.*s\n", told[1], (int)length, (const char *)text);
+    number = broachvale_write(dictionary, d, text, length, back, sizeof back, told, 3);
+    puts(number == 0 && told[2] == p && memcmp(back, payload, p) == 0 ? "both directions meet" : "they don't meet");
     puts(operate() ? "the desk answers" : "the desk fails");
     return 0;
 }

@@ -5,7 +5,7 @@ use std::path::Path;
 use std::process::Command;
 
 #[test]
-fn a_c_program_decodes_the_sample_and_keeps_a_desk() {
+fn a_c_program_decodes_and_encodes_the_sample_and_keeps_a_desk() {
     let root = Path::new(env!("CARGO_MANIFEST_DIR")).join("..");
     let program = Path::new(env!("CARGO_TARGET_TMPDIR")).join("read");
     let built = Command::new("cc")
@@ -23,6 +23,7 @@ fn a_c_program_decodes_the_sample_and_keeps_a_desk() {
     let expected = concat!(
         "9 tuples: {\"ChildArrayProperty\":[{\"AnotherBoolean\":true,\"LinkStatus\":\"NoLink\"},",
         "{\"LinkStatus\":\"LinkDown\"}],\"Id\":\"Dummy ID\",\"SampleIntegerProperty\":12}\n",
+        "both directions meet\n",
         "the desk answers\n",
     );
     assert_eq!(String::from_utf8_lossy(&run.stdout), expected);
