@@ -5,7 +5,7 @@
 //! - `proved`: the proved functions, called through their C boundary.
 //! - `figure`: the dictionary of DSP0218's Figure 6.
 //! - `make`: dictionaries and payloads for both to judge: ordinary, small, hostile and damaged ones.
-//! - `timing`: ratios of times taken in one run.
+//! - `trial`: what the comparisons share. `timing`: ratios of times taken in one run.
 //! - `random`: the numbers that the makers draw, the same for the same seed on every machine.
 
 pub mod desk;
@@ -16,4 +16,5 @@ pub mod proved;
 pub mod random;
 pub mod reader;
 pub mod timing;
+pub mod trial;
 pub mod writer;

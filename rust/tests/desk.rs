@@ -4,18 +4,18 @@
 use trials::desk::{self, Call, Record, DESK_BYTES, STORE_BYTES};
 use trials::proved;
 use trials::random::Random;
+use trials::trial::Seen;
 
 /// The same desk and store, once for each side.
 struct Trial {
     rival: (Vec<u8>, Vec<u8>),
     proved: (Vec<u8>, Vec<u8>),
-    /// How often each number was answered.
-    numbers: [usize; 28],
+    seen: Seen,
 }
 
 impl Trial {
     fn new(desk: Vec<u8>, store: Vec<u8>) -> Trial {
-        Trial { rival: (desk.clone(), store.clone()), proved: (desk, store), numbers: [0; 28] }
+        Trial { rival: (desk.clone(), store.clone()), proved: (desk, store), seen: Seen::default() }
     }
 
     fn call(&mut self, call: Call) -> u32 {
@@ -27,15 +27,8 @@ impl Trial {
         if answer.number != 0 {
             assert!(self.proved == before, "refused, and changed: {call:?} on {:?}", before.0);
         }
-        self.numbers[answer.number as usize] += 1;
+        self.seen.count(answer.number);
         answer.number
-    }
-
-    fn saw(&self, what: &str, numbers: &[usize]) {
-        println!("{what}: {:?}", self.numbers);
-        for &number in numbers {
-            assert!(self.numbers[number] > 0, "{what}: {number} was never answered");
-        }
     }
 }
 
@@ -67,7 +60,7 @@ fn stories_from_an_empty_desk() {
     for _ in 0..60_000 {
         trial.call(some_call(&mut random, &piece));
     }
-    trial.saw("stories", &[0, 21, 22, 23, 24, 25, 26, 27]);
+    trial.seen.saw("stories", &[0, 21, 22, 23, 24, 25, 26, 27]);
 }
 
 /// Records near the edges of soundness, at every place.

@@ -7,6 +7,7 @@ use trials::make::payload::{self, FREE, PLAIN};
 use trials::make::{damage, ordinary, small};
 use trials::random::Random;
 use trials::reader::{Answer, MOST, TEXT_MOST};
+use trials::trial::Buffers;
 use trials::{figure, proved, reader};
 
 /// 002's clause 8.6 less its annotation.
@@ -22,41 +23,22 @@ fn unhex(text: &str) -> Vec<u8> {
     pairs.map(|pair| u8::from_str_radix(&pair, 16).expect("hex")).collect()
 }
 
-/// Both readers, each with a buffer of its own whose bytes are no zeros.
-struct Trial {
-    old: Vec<u8>,
-    rival: Vec<u8>,
-    proved: Vec<u8>,
-    /// How often each number was answered.
-    numbers: [usize; 16],
-}
+struct Trial(Buffers);
 
 impl Trial {
     fn new() -> Trial {
-        let old: Vec<u8> = (0..TEXT_MOST + 10).map(|at| (at % 251) as u8 + 1).collect();
-        Trial { rival: old.clone(), proved: old.clone(), old, numbers: [0; 16] }
+        Trial(Buffers::new(TEXT_MOST + 10))
     }
 
     fn read(&mut self, dictionary: &[u8], bytes: &[u8], budget: usize, room: usize) -> Answer {
-        let expected = reader::read(dictionary, bytes, budget, &mut self.rival[..room]);
-        let answer = proved::read(dictionary, bytes, budget, &mut self.proved[..room]);
+        let rival = |out: &mut [u8]| reader::read(dictionary, bytes, budget, out);
+        let proved = |out: &mut [u8]| proved::read(dictionary, bytes, budget, out);
         let what = || format!("{bytes:02x?} under {dictionary:02x?}, budget {budget}, room {room}");
-        assert_eq!(answer, expected, "{}", what());
-        assert!(self.proved == self.rival, "the buffers differ: {}", what());
-        let written = answer.length;
-        assert!(self.proved[written..] == self.old[written..], "past the text: {}", what());
-        self.rival[..written].copy_from_slice(&self.old[..written]);
-        self.proved[..written].copy_from_slice(&self.old[..written]);
-        self.numbers[answer.number as usize] += 1;
-        answer
+        self.0.compare(room, rival, proved, what).0
     }
 
-    /// A comparison that never sees a refusal says nothing of it.
     fn saw(&self, what: &str, numbers: &[usize]) {
-        println!("{what}: {:?}", self.numbers);
-        for &number in numbers {
-            assert!(self.numbers[number] > 0, "{what}: {number} was never answered");
-        }
+        self.0.seen.saw(what, numbers);
     }
 }
 

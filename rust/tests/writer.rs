@@ -5,39 +5,21 @@ use trials::make::payload::{FREE, PLAIN};
 use trials::make::{ordinary, small, text};
 use trials::random::Random;
 use trials::reader::{Answer, MOST, TEXT_MOST};
+use trials::trial::Buffers;
 use trials::{dictionary, figure, proved, writer};
 
-/// Both writers, each with a buffer of its own whose bytes are no zeros.
-struct Trial {
-    old: Vec<u8>,
-    rival: Vec<u8>,
-    proved: Vec<u8>,
-    /// How often each number was answered.
-    numbers: [usize; 16],
-}
+struct Trial(Buffers);
 
 impl Trial {
     fn new() -> Trial {
-        let old: Vec<u8> = (0..MOST + 10).map(|at| (at % 251) as u8 + 1).collect();
-        Trial { rival: old.clone(), proved: old.clone(), old, numbers: [0; 16] }
+        Trial(Buffers::new(MOST + 10))
     }
 
     fn write(&mut self, dictionary: &[u8], text: &[u8], room: usize) -> (Answer, Vec<u8>) {
-        let expected = writer::write(dictionary, text, &mut self.rival[..room]);
-        let answer = proved::write(dictionary, text, &mut self.proved[..room]);
+        let rival = |out: &mut [u8]| writer::write(dictionary, text, out);
+        let proved = |out: &mut [u8]| proved::write(dictionary, text, out);
         let what = || format!("{} under {dictionary:02x?}", String::from_utf8_lossy(text));
-        assert_eq!(answer, expected, "{}", what());
-        assert!(self.proved == self.rival, "the buffers differ: {}", what());
-        let bytes = self.proved[..answer.length].to_vec();
-        assert!(
-            self.proved[bytes.len()..] == self.old[bytes.len()..],
-            "past the payload: {}",
-            what()
-        );
-        self.rival[..bytes.len()].copy_from_slice(&self.old[..bytes.len()]);
-        self.proved[..bytes.len()].copy_from_slice(&self.old[..bytes.len()]);
-        self.numbers[answer.number as usize] += 1;
-        (answer, bytes)
+        self.0.compare(room, rival, proved, what)
     }
 
     /// Writes, and reads back the text less its spaces with the writer's count for a budget and no byte of room to spare.
@@ -51,12 +33,8 @@ impl Trial {
         (answer, bytes)
     }
 
-    /// A comparison that never sees a refusal says nothing of it.
     fn saw(&self, what: &str, numbers: &[usize]) {
-        println!("{what}: {:?}", self.numbers);
-        for &number in numbers {
-            assert!(self.numbers[number] > 0, "{what}: {number} was never answered");
-        }
+        self.0.seen.saw(what, numbers);
     }
 }
 
