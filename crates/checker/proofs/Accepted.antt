@@ -7,29 +7,29 @@ use mathlib.Core.Bool.{Bool, true, false, not, _&&_}
 use native.Mathlib.Omega.{arith}
 use lib.ListN.{length}
 use borrow.Author.Tests.{not-true, not-false}
-use Rattle.terms.specs.Tests.{all}
-use Rattle.terms.proofs.Tests.{all-both}
-use Rattle.dictionary.specs.Rows.{entries}
+use Rattle.paper.specs.Tests.{all}
+use Rattle.paper.proofs.Tests.{all-both}
+use Rattle.dictionary.specs.Rows.{headerBytes, entries}
 use Rattle.dictionary.specs.Accepts.{headerFine, nameFine, childrenFine, rowFine, accepts}
 use Rattle.dictionary.specs.Given.{Headed}
 use Rattle.dictionary.specs.Met.{Field, Rowed, Named}
 use Rattle.dictionary.proofs.Laws.{header-gives}
 
 module _ (d : List ℕ) (t : Bool) (ht : t ≡ headerFine d) where
-  pub judge-header : not t ≡ true → false ≡ accepts d
+  pub accept-header : not t ≡ true → false ≡ accepts d
   unfolding accepts
-  judge-header e = rw (← ht, not-true t e)
+  accept-header e = rw (← ht, not-true t e)
 
   module _ (e : not t ≡ false) where
     headed : Headed d
     headed = header-gives d (sym ht ∙ not-false t e)
 
-    pub judge-room : 12 ≤ length d
-    judge-room = let h = headed in omega (arith, h .least)
+    pub accept-room : headerBytes ≤ length d
+    accept-room = let h = headed in omega (arith, h .least)
 
     module _ (n : ℕ) (hn : Field (entries d) 65536 n) where
-      pub judge-rowed : Rowed d n
-      judge-rowed =
+      pub accept-rowed : Rowed d n
+      accept-rowed =
           let h = headed in
           record { counted = hn .same; inside = rw (← hn .same) at (h .inside); few = h .most }
 
@@ -38,14 +38,14 @@ module _ (d : List ℕ) (t : Bool) (ht : t ≡ headerFine d) where
       rows = rw (← ht, not-false t e, ← hn .same) (all-both (nameFine d) (childrenFine d) n)
 
       module _ (u : Bool) (hu : u ≡ all n (nameFine d)) where
-        pub judge-names : not u ≡ true → false ≡ accepts d
-        judge-names f = sym (rows ∙ rw (← hu, not-true u f))
+        pub accept-names : not u ≡ true → false ≡ accepts d
+        accept-names f = sym (rows ∙ rw (← hu, not-true u f))
 
         module _ (f : not u ≡ false) where
-          pub judge-named : Named d n
-          judge-named = record { rowed = judge-rowed; names = sym hu ∙ not-false u f }
+          pub accept-named : Named d n
+          accept-named = record { rowed = accept-rowed; names = sym hu ∙ not-false u f }
 
-          pub judge-else : (v : Bool) → v ≡ all n (childrenFine d) → v ≡ accepts d
-          judge-else v hv = hv ∙ sym (rows ∙ rw (← hu, not-false u f))
+          pub accept-else : (v : Bool) → v ≡ all n (childrenFine d) → v ≡ accepts d
+          accept-else v hv = hv ∙ sym (rows ∙ rw (← hu, not-false u f))
 
-pub ruleset judging = (judge-header, judge-room, judge-rowed, judge-names, judge-named, judge-else)
+pub ruleset acceptance = (accept-header, accept-room, accept-rowed, accept-names, accept-named, accept-else)

@@ -1,6 +1,6 @@
 -- The functions that ask an accepted dictionary for a name or a child, one lemma for each return.
 -- Assumes nothing.
-use Prim.Native.Nat.{ℕ, _+_, _-_, _*_, _≤_, _<_}
+use Prim.Native.Nat.{ℕ, _+_, _-_, _≤_, _<_}
 use mathlib.Core.Path.{_≡_, refl, sym, ap, _∙_}
 use mathlib.Core.List.{List, [], _∷_}
 use mathlib.Core.Bool.{Bool, true, false}
@@ -8,15 +8,15 @@ use native.Mathlib.Omega.{arith}
 use native.Mathlib.Nat.{add-zero, zero-add}
 use lib.ListN.{length, take, drop}
 use lib.Seq.{slice, take-length}
-use Rattle.terms.specs.Tests.{same}
-use Rattle.terms.proofs.Tests.{same-ne}
+use Rattle.paper.specs.Tests.{same}
+use Rattle.paper.proofs.Tests.{same-ne}
 use Rattle.numbers.proofs.Places.{slice-take}
 use Rattle.dictionary.specs.declared.Child.the-variants.{At, Nothing}
-use Rattle.dictionary.specs.Rows.{entries, firstChild, childCount, nameLength, nameOffset, name}
+use Rattle.dictionary.specs.Rows.{rowBytes, rowAt, entries, firstChild, childCount, nameLength, nameOffset, name}
 use Rattle.dictionary.specs.Accepts.{accepts}
 use Rattle.dictionary.specs.Children.{seek, hasName, childNumbered, childNamed}
-use Rattle.dictionary.specs.Given.{parent, Family}
-use Rattle.dictionary.specs.Met.{Field}
+use Rattle.dictionary.specs.Given.{Row, parent, Family}
+use Rattle.dictionary.specs.Met.{Field, NameMet}
 use Rattle.dictionary.proofs.Seeking.{seek-none, seek-here, seek-next}
 use Rattle.dictionary.proofs.Laws.{accepted-header, accepted-name, accepted-family, number-known, number-unknown}
 
@@ -26,7 +26,7 @@ empty (x ∷ l) e = absurd (omega (arith, e))
 
 -- a row, and its name
 module _ (d : List ℕ) (ok : accepts d ≡ true) (r : ℕ) (h : r < entries d) where
-  pub row-inside : 12 + 10 * r + 10 ≤ length d
+  pub row-inside : rowAt r + rowBytes ≤ length d
   row-inside = let x = accepted-header d ok in omega (arith, x .inside)
 
   module _ (k : ℕ) (hk : Field (nameLength d r) 256 k) where
@@ -48,6 +48,23 @@ module _ (d : List ℕ) (ok : accepts d ≡ true) (r : ℕ) (h : r < entries d) 
           sym (slice-take d o (o + k - 1 - o)) ∙ rw (e, ho .same, hk .same)
 
 pub ruleset asking = (row-inside, nameless, end-inside, part-name)
+
+-- how long a row's name is
+module _ (d : List ℕ) (r : ℕ) (w : Row d r) where
+  pub own-row : rowAt r + rowBytes ≤ length d
+  own-row = row-inside d (w .accepted) r (w .inside)
+
+  module _ (k : ℕ) (hk : Field (nameLength d r) 256 k) where
+    one-less : length (name d r) ≡ k - 1
+    one-less = let x = accepted-name d (w .accepted) r (w .inside) in omega (arith, x .long, hk .same)
+
+    pub long-none : k ≡ 0 → NameMet d r 0
+    long-none e = record { same = omega (arith, one-less); few = omega arith }
+
+    pub long-some : (k ≡ 0 → ⊥) → NameMet d r (k - 1)
+    long-some e = record { same = sym one-less; few = omega (arith, hk .below) }
+
+pub ruleset measuring = (own-row, long-none, long-some)
 
 -- a row's name against a text
 module _ (d : List ℕ) (r : ℕ) (t own : List ℕ) (e : own ≡ name d r) where

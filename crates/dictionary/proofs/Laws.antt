@@ -1,59 +1,64 @@
--- What acceptance gives, for the crates above: the header, every row's name, and the children of a set, array or enum, by number and by name.
+-- What acceptance gives, for the crates above: the header, every row's name, and the children of a set, array or enum.
 -- Assumes nothing.
-use Prim.Native.Nat.{ℕ, zero, suc, _+_, _-_, _%_, _≤_, _<_}
-use mathlib.Core.Path.{_≡_, refl, sym, ap, _∙_}
+--   header-gives       a header that is fine: its facts, as Headed
+--   block-inside       a block of children that is fine lies among the rows
+--   array-parent, enum-parent   a row of that format has children
+-- and of an accepted dictionary:
+--   accepted-header    the header's facts
+--   accepted-rowed     the entries lie inside; accepted-named: and every row's name keeps the rule
+--   accepted-name      a row's name lies inside and is printable
+--   by-format          of a row with children: what follows from each of the three formats, follows
+--   accepted-family    its children lie among the rows, each with its position as its number
+--   accepted-members   those of a set or enum are named, no two alike
+--   accepted-array     an array has one child
+--   accepted-enum      an enum has at least one child, and only strings
+-- Children by number and by name (Finding) are passed on: number-own, number-known, number-unknown, number-child, named-child, sibling, named-known.
+use Prim.Native.Nat.{ℕ, _+_, _-_, _%_, _≤_, _<_}
+use mathlib.Core.Path.{_≡_, refl, sym, _∙_}
 use mathlib.Core.List.{List}
 use mathlib.Core.Bool.{Bool, true, false, not, _&&_, _||_, true≢false}
 use native.Mathlib.Omega.{arith}
-use native.Mathlib.Nat.{add-zero}
-use lib.Dec.{ltb, leb, eqb}
-use borrow.Author.Tests.{ltb-true, ltb-false, leb-true, eqb-true, eqb-false, eq-eqb, ne-eqb, not-true}
-use Rattle.terms.specs.Tests.{all}
-use Rattle.terms.specs.Checks.{choose}
-use Rattle.terms.proofs.Tests.{and-left, and-right, so-not, all-at, all-both, same-refl, same-eq, same-true}
-use Rattle.dictionary.specs.declared.Child.the-variants.{At, Nothing}
-use Rattle.dictionary.specs.Formats.{setForm, arrayForm, enumForm, stringForm}
 use lib.ListN.{length}
-use Rattle.dictionary.specs.Rows.{childOffset, wholeSize, entriesEnd, entries, kind, numberIn, firstChild, childCount, nameLength, name}
+use lib.Dec.{leb, eqb}
+use borrow.Author.Tests.{leb-true, eqb-true, eqb-false, not-true}
+use Rattle.paper.specs.Limits.{dictionaryLeast, dictionaryMost}
+use Rattle.paper.specs.Tests.{all}
+use Rattle.paper.specs.Checks.{choose}
+use Rattle.paper.proofs.Tests.{and-left, and-right, so-not, all-at, all-both, same-eq}
+use Rattle.dictionary.specs.Formats.{setForm, arrayForm, enumForm, stringForm}
+use Rattle.dictionary.specs.Rows.{headerBytes, rowBytes, childOffset, wholeSize, entriesEnd, entries, kind, numberIn, firstChild, childCount, nameLength, name}
 use Rattle.dictionary.specs.Accepts.{headerFine, blockFine, inTurn, unlike, differs, member, stringChild, setFine, arrayFine, enumFine, leafForm, childless, childrenFine, nameFine, rowFine, accepts}
-use Rattle.dictionary.specs.Children.{seek, hasNumber, hasName, childNumbered, childNamed}
 use Rattle.dictionary.specs.Given.{Headed, Worded, parent, Family, Members}
 use Rattle.dictionary.specs.Met.{Rowed, Named}
-use Rattle.dictionary.proofs.Naming.{name-inside, name-two, name-long, name-printable}
-use Rattle.dictionary.proofs.Seeking.{Sought, seek-none, seek-here, seek-next, seek-found, seek-some}
+use Rattle.dictionary.proofs.Naming.{none-or, name-inside, name-two, name-long, name-printable}
+pub use Rattle.dictionary.proofs.Finding.{number-own, number-known, number-unknown, number-child, named-child, sibling, named-known}
 
 -- a block that is fine lies among the rows
-block-cases : (d : List ℕ) (r : ℕ) (x y : Bool) → eqb (childOffset d r) 0 ≡ x → eqb (childCount d r) 0 ≡ y → (z : Bool) → (x && y) || z && leb (firstChild d r + childCount d r) (entries d) ≡ true → firstChild d r + childCount d r ≤ entries d
-block-cases d r true true f g z h =
-    let o = eqb-true (childOffset d r) 0 f in
-    let k = eqb-true (childCount d r) 0 g in
-    omega (arith, o, k)
-block-cases d r true false f g z h = leb-true _ _ (and-right z _ h)
-block-cases d r false y f g z h = leb-true _ _ (and-right z _ h)
-
 pub block-inside : (d : List ℕ) (r : ℕ) → blockFine d r ≡ true → firstChild d r + childCount d r ≤ entries d
 unfolding blockFine childless
-block-inside d r e = block-cases d r _ _ refl refl (leb 12 (childOffset d r) && eqb ((childOffset d r - 12) % 10) 0) e
+block-inside d r e =
+    none-or (firstChild d r + childCount d r ≤ entries d) (childOffset d r) (childCount d r) _ e (λ o k. omega (arith, o, k))
+    (λ h. leb-true _ _ (and-right (leb headerBytes (childOffset d r) && eqb ((childOffset d r - headerBytes) % rowBytes) 0) _ h))
 
 -- a header that is fine
 pub header-gives : (d : List ℕ) → headerFine d ≡ true → Headed d
 unfolding headerFine
 header-gives d h = go _ _ _ _ _ _ _ refl refl refl refl refl h
   where
-    go : (a b c e f g i : Bool) → leb 22 (length d) ≡ a → leb (length d) 65535 ≡ b → eqb (wholeSize d) (length d) ≡ f → leb 1 (entries d) ≡ g → leb (entriesEnd d) (length d) ≡ i → a && b && c && e && f && g && i && eqb (kind d 0) 0 ≡ true → Headed d
+    go : (a b c e f g i : Bool) → leb dictionaryLeast (length d) ≡ a → leb (length d) dictionaryMost ≡ b → eqb (wholeSize d) (length d) ≡ f → leb 1 (entries d) ≡ g → leb (entriesEnd d) (length d) ≡ i → a && b && c && e && f && g && i && eqb (kind d 0) setForm ≡ true → Headed d
     go a b c e f g i ea eb ef eg ei h =
-        let h7 = and-left (a && b && c && e && f && g && i) (eqb (kind d 0) 0) h in
+        let h7 = and-left (a && b && c && e && f && g && i) (eqb (kind d 0) setForm) h in
         let h6 = and-left (a && b && c && e && f && g) i h7 in
         let h5 = and-left (a && b && c && e && f) g h6 in
         let h4 = and-left (a && b && c && e) f h5 in
         let h2 = and-left (a && b) c (and-left (a && b && c) e h4) in
         record {
-          least = leb-true 22 (length d) (ea ∙ and-left a b h2);
-          most = leb-true (length d) 65535 (eb ∙ and-right a b h2);
+          least = leb-true dictionaryLeast (length d) (ea ∙ and-left a b h2);
+          most = leb-true (length d) dictionaryMost (eb ∙ and-right a b h2);
           sized = eqb-true (wholeSize d) (length d) (ef ∙ and-right (a && b && c && e) f h5);
           some = leb-true 1 (entries d) (eg ∙ and-right (a && b && c && e && f) g h6);
           inside = leb-true (entriesEnd d) (length d) (ei ∙ and-right (a && b && c && e && f && g) i h7);
-          root = eqb-true (kind d 0) 0 (and-right (a && b && c && e && f && g && i) (eqb (kind d 0) 0) h);
+          root = eqb-true (kind d 0) setForm (and-right (a && b && c && e && f && g && i) (eqb (kind d 0) setForm) h);
         }
 
 member-unlike : (d : List ℕ) (first p : ℕ) → member d first p ≡ true → unlike d first p ≡ true
@@ -227,94 +232,3 @@ module _ (d : List ℕ) (ok : accepts d ≡ true) where
           (λ f _. absurd (let z = sym k ∙ f in omega (arith, z)))
           (λ f _. absurd (let z = sym k ∙ f in omega (arith, z)))
           (λ _ e. (enum-some e, λ p l. string-child d (firstChild d r) p (all-at _ _ (enum-strings e) p l)))
-
--- a child that is found by a number has that number: so one row is the child of one number only
-pub number-own : (d : List ℕ) (r n c : ℕ) → childNumbered d r n ≡ At c → numberIn d c ≡ n
-unfolding childNumbered
-number-own d r n c e = eqb-true (numberIn d c) n (seek-found (hasNumber d n) (childCount d r) (firstChild d r) c e .passes)
-
--- children by number: in an accepted dictionary the number is the position
-module _ (d : List ℕ) (n first : ℕ) where
-  seek-turn : (k i : ℕ) → ((p : ℕ) → i ≤ p → p < i + k → numberIn d (first + p) ≡ p) → i ≤ n → n < i + k → seek k (first + i) (hasNumber d n) ≡ At (first + n)
-  seek-turn zero i t lo hi = absurd (omega arith)
-  seek-turn (suc k) i t lo hi =
-      go (eqb i n) refl (λ l. seek-turn k (i + 1) (λ p a b. t p (omega arith) (omega arith)) (omega arith) (omega arith))
-    where
-      own : numberIn d (first + i) ≡ i
-      own = t i (omega arith) (omega arith)
-
-      go : (b : Bool) → eqb i n ≡ b → (i < n → seek k (first + (i + 1)) (hasNumber d n) ≡ At (first + n)) → seek (suc k) (first + i) (hasNumber d n) ≡ At (first + n)
-      go true e rec =
-          let z = eqb-true i n e in
-          seek-here (hasNumber d n) (suc k) (first + i) (omega arith) (eq-eqb (numberIn d (first + i)) n (own ∙ z)) ∙ ap At (omega (arith, z))
-      go false e rec =
-          let x = eqb-false i n e in
-          let f : suc k - 1 ≡ k = omega arith in
-          let g : first + i + 1 ≡ first + (i + 1) = omega arith in
-          rw (f, g) at (seek-next (hasNumber d n) (suc k) (first + i) (omega arith) (ne-eqb (numberIn d (first + i)) n (λ y. x (sym own ∙ y))))
-          ∙ rec (omega (arith, x))
-
-  seek-past : (k i : ℕ) → ((p : ℕ) → i ≤ p → p < i + k → numberIn d (first + p) ≡ p) → i + k ≤ n → seek k (first + i) (hasNumber d n) ≡ Nothing
-  seek-past zero i t lo = seek-none (hasNumber d n) 0 (first + i) refl
-  seek-past (suc k) i t lo =
-      let f : suc k - 1 ≡ k = omega arith in
-      let g : first + i + 1 ≡ first + (i + 1) = omega arith in
-      let own = t i (omega arith) (omega arith) in
-      rw (f, g) at (seek-next (hasNumber d n) (suc k) (first + i) (omega arith) (ne-eqb (numberIn d (first + i)) n (λ y. let z = sym own ∙ y in omega (arith, z))))
-      ∙ seek-past k (i + 1) (λ p a b. t p (omega arith) (omega arith)) (omega arith)
-
-module _ (d : List ℕ) (r n : ℕ) (w : Family d r) where
-  pub number-known : n < childCount d r → childNumbered d r n ≡ At (firstChild d r + n)
-  unfolding childNumbered
-  number-known h =
-      rw (add-zero (firstChild d r)) at (seek-turn d n (firstChild d r) (childCount d r) 0 (λ p a b. w .in-turn p (omega arith)) (omega arith) (omega arith))
-
-  pub number-unknown : childCount d r ≤ n → childNumbered d r n ≡ Nothing
-  unfolding childNumbered
-  number-unknown h =
-      rw (add-zero (firstChild d r)) at (seek-past d n (firstChild d r) (childCount d r) 0 (λ p a b. w .in-turn p (omega arith)) (omega arith))
-
-  pub number-child : (c : ℕ) → childNumbered d r n ≡ At c → (c < entries d) × (numberIn d c ≡ n) × (c ≡ firstChild d r + n)
-  unfolding childNumbered
-  number-child c e =
-      let s = seek-found (hasNumber d n) (childCount d r) (firstChild d r) c e in
-      let m = eqb-true (numberIn d c) n (s .passes) in
-      let p = w .in-turn (c - firstChild d r) (omega (arith, s .from, s .under)) in
-      let q : firstChild d r + (c - firstChild d r) ≡ c = omega (arith, s .from) in
-      (omega (arith, s .under, w .within), m, omega (arith, rw q at p, m, s .from))
-
--- children by name: the row that is found has the name, and its own number finds it again
-module _ (d : List ℕ) (r : ℕ) (t : List ℕ) (w : Family d r) where
-  pub named-child : (c : ℕ) → childNamed d r t ≡ At c → (c < entries d) × (name d c ≡ t) × (childNumbered d r (numberIn d c) ≡ At c)
-  unfolding childNamed
-  named-child c e =
-      let s = seek-found (hasName d t) (childCount d r) (firstChild d r) c e in
-      let q : firstChild d r + (c - firstChild d r) ≡ c = omega (arith, s .from) in
-      let p = w .in-turn (c - firstChild d r) (omega (arith, s .from, s .under)) in
-      let m : numberIn d c ≡ c - firstChild d r = rw q at p in
-      let k = number-known d r (numberIn d c) w (omega (arith, m, s .from, s .under)) in
-      (omega (arith, s .under, w .within), same-true _ _ (s .passes), k ∙ ap At (omega (arith, m, s .from)))
-
--- two children of one name are one
-pub sibling : (d : List ℕ) (row p q : ℕ) → Members d row → p < childCount d row → q < childCount d row → name d (firstChild d row + p) ≡ name d (firstChild d row + q) → p ≡ q
-sibling d row p q m h g e = go (ltb p q) (ltb q p) refl refl
-  where
-    go : (a b : Bool) → ltb p q ≡ a → ltb q p ≡ b → p ≡ q
-    go true b f k = absurd (m .differ q p (ltb-true p q f) g e)
-    go false true f k = absurd (m .differ p q (ltb-true q p k) h (sym e))
-    go false false f k = omega (arith, ltb-false p q f, ltb-false q p k)
-
--- so a child is found by its name
-pub named-known : (d : List ℕ) (row n : ℕ) → Family d row → Members d row → n < childCount d row → childNamed d row (name d (firstChild d row + n)) ≡ At (firstChild d row + n)
-unfolding childNamed
-named-known d row n w m h =
-    let t = name d (firstChild d row + n) in
-    let o = seek-some (hasName d t) (childCount d row) (firstChild d row) (firstChild d row + n) (same-refl t) (omega arith) (omega arith) in
-    o .1 ∙ ap At (one (o .0) (seek-found (hasName d t) (childCount d row) (firstChild d row) (o .0) (o .1)))
-  where
-    one : (c : ℕ) → Sought (hasName d (name d (firstChild d row + n))) (childCount d row) (firstChild d row) c → c ≡ firstChild d row + n
-    one c s =
-        let q : firstChild d row + (c - firstChild d row) ≡ c = omega (arith, s .from) in
-        let e : name d (firstChild d row + (c - firstChild d row)) ≡ name d (firstChild d row + n) = rw q (same-true (name d c) (name d (firstChild d row + n)) (s .passes)) in
-        let z = sibling d row (c - firstChild d row) n m (omega (arith, s .from, s .under)) h e in
-        omega (arith, z, s .from)

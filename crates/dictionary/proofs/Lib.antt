@@ -2,5 +2,6 @@
 pub mod Fields
 pub mod Naming
 pub mod Seeking
+pub mod Finding
 pub mod Laws
 pub mod Asking

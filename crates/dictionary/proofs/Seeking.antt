@@ -6,7 +6,7 @@ use mathlib.Core.Bool.{Bool, true, false}
 use native.Mathlib.Omega.{arith}
 use lib.Dec.{eqb}
 use borrow.Author.Tests.{eqb-true, eqb-false}
-use Rattle.terms.specs.Checks.{choose}
+use Rattle.paper.specs.Checks.{choose}
 use Rattle.dictionary.specs.declared.Child.the-variants.{At, Nothing}
 use Rattle.dictionary.specs.Children.{seek}
 

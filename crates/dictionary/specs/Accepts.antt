@@ -4,9 +4,9 @@ use mathlib.Core.List.{List}
 use mathlib.Core.Bool.{Bool, true, false, not, _&&_, _||_}
 use lib.ListN.{length}
 use lib.Dec.{leb, eqb}
-use Rattle.terms.specs.Limits.{dictionaryLeast, dictionaryMost}
-use Rattle.terms.specs.Checks.{choose}
-use Rattle.terms.specs.Tests.{all, same}
+use Rattle.paper.specs.Limits.{dictionaryLeast, dictionaryMost}
+use Rattle.paper.specs.Checks.{choose}
+use Rattle.paper.specs.Tests.{all, same}
 use Rattle.numbers.specs.Bytes.{byte}
 use Rattle.dictionary.specs.Formats.{setForm, arrayForm, integerForm, enumForm, stringForm, booleanForm}
 use Rattle.dictionary.specs.Rows.{headerBytes, rowBytes, tag, truncated, entries, wholeSize, entriesEnd, kind, numberIn, childOffset, childCount, firstChild, nameLength, nameOffset, name}

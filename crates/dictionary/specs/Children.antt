@@ -5,8 +5,8 @@ use Prim.Native.Nat.{ℕ, zero, suc}
 use mathlib.Core.List.{List}
 use mathlib.Core.Bool.{Bool}
 use lib.Dec.{eqb}
-use Rattle.terms.specs.Checks.{choose}
-use Rattle.terms.specs.Tests.{same}
+use Rattle.paper.specs.Checks.{choose}
+use Rattle.paper.specs.Tests.{same}
 use Rattle.dictionary.specs.declared.Child.{Child}
 use Rattle.dictionary.specs.declared.Child.the-variants.{At, Nothing}
 use Rattle.dictionary.specs.Rows.{numberIn, childCount, firstChild, name}

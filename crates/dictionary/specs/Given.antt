@@ -1,5 +1,6 @@
 -- What acceptance gives, as facts: the crates above cite these and never open the checker's definition.
 --   Headed d       the header
+--   Row d row      a row of an accepted dictionary: what most functions above ask of their caller
 --   Worded d r     the row's name lies inside and is printable
 --   parent d r     the row's format has children
 --   Family d r     such a row's children are in range, in turn and found by number
@@ -10,10 +11,10 @@ use mathlib.Core.List.{List}
 use mathlib.Core.Bool.{Bool, true, _||_}
 use lib.ListN.{length, getD}
 use lib.Dec.{eqb}
-use Rattle.terms.specs.Limits.{dictionaryLeast, dictionaryMost}
+use Rattle.paper.specs.Limits.{dictionaryLeast, dictionaryMost}
 use Rattle.dictionary.specs.Formats.{setForm, arrayForm, enumForm}
 use Rattle.dictionary.specs.Rows.{entries, entriesEnd, wholeSize, kind, numberIn, firstChild, childCount, nameLength, nameOffset, name}
-use Rattle.dictionary.specs.Accepts.{nameByte}
+use Rattle.dictionary.specs.Accepts.{nameByte, accepts}
 
 pub record Headed (d : List ℕ) : Type 0 where
   pub least : dictionaryLeast ≤ length d
@@ -22,6 +23,10 @@ pub record Headed (d : List ℕ) : Type 0 where
   pub some : 1 ≤ entries d
   pub inside : entriesEnd d ≤ length d
   pub root : kind d 0 ≡ setForm
+
+pub record Row (d : List ℕ) (row : ℕ) : Type 0 where
+  pub accepted : accepts d ≡ true
+  pub inside : row < entries d
 
 pub record Worded (d : List ℕ) (r : ℕ) : Type 0 where
   pub inside : nameOffset d r + nameLength d r ≤ length d

@@ -1,5 +1,5 @@
 -- Document 01, "The dictionary (002, clause 7.2.3)": where everything stands. A dictionary is a list of bytes, and a row is the number of an entry, from 0.
---   entries d                     the entry count
+--   entries d                     the entry count; rowsMost: the most that there is room for
 --   form, kind, nullable          of a row: its format byte, the high nibble of it, and its bit 2
 --   numberIn                      its sequence number
 --   childOffset, childCount       its children, as the bytes say; firstChild is the row of the first
@@ -9,6 +9,7 @@ use mathlib.Core.List.{List}
 use mathlib.Core.Bool.{Bool}
 use lib.Seq.{slice}
 use lib.Dec.{eqb}
+use Rattle.paper.specs.Limits.{dictionaryMost}
 use Rattle.numbers.specs.Bytes.{byte, short, long}
 
 -- "Header of 12 bytes: version tag 0; flags, bit 0 = truncated; entry count (2); schema version (4); whole size (4)."
@@ -33,6 +34,10 @@ rowBytes = 10
 
 abbrev pub rowAt : ℕ → ℕ
 rowAt r = headerBytes + rowBytes * r
+
+-- the most rows that a dictionary of the most bytes has room for
+abbrev pub rowsMost : ℕ
+rowsMost = (dictionaryMost - headerBytes) / rowBytes
 
 abbrev pub form : List ℕ → ℕ → ℕ
 form d r = byte d (rowAt r)

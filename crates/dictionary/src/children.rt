@@ -1,19 +1,19 @@
 // What the crates above ask of a row in an accepted dictionary: its name, and its children by number and by name.
 use crate::Child;
-use crate::names::same_bytes;
 use crate::rows::child_count;
 use crate::rows::first_child;
 use crate::rows::name_length;
 use crate::rows::name_offset;
+use paper::bytes::same_bytes;
 ghost use mathlib.Core.Path.{_≡_};
 ghost use mathlib.Core.Bool.{true};
-ghost use Prim.Native.Nat.{ℕ, _+_, _-_, _*_, _≤_, _<_};
-ghost use lib.ListN.{length};
-ghost use Rattle.terms.specs.Tests.{same};
+ghost use Prim.Native.Nat.{_<_};
+ghost use Rattle.paper.specs.Tests.{same};
 ghost use Rattle.dictionary.specs.Rows.{entries, name};
 ghost use Rattle.dictionary.specs.Accepts.{accepts};
 ghost use Rattle.dictionary.specs.Children.{childNumbered, childNamed};
-ghost use Rattle.dictionary.specs.Given.{parent};
+ghost use Rattle.dictionary.specs.Given.{Row, parent};
+ghost use Rattle.dictionary.specs.Met.{NameMet};
 
 // The row's name as a part of the lent bytes, without its closing 00; nothing where the row has none.
 pub fn name_of<'a>(d: &'a [u8], row: usize) -> &'a [u8]
@@ -28,6 +28,18 @@ pub fn name_of<'a>(d: &'a [u8], row: usize) -> &'a [u8]
     let at = name_offset(d, row);
     let end = at + long - 1;
     &d[at..end]
+}
+
+// How long the row's name is, without its closing 00.
+pub fn name_long(d: &[u8], row: usize) -> usize
+    requires { ⌜ Row (now d) row ⌝ }
+    ensures { λ r. ⌜ NameMet (now (d .entry)) row r ⌝ }
+{
+    let long = name_length(d, row);
+    if long == 0 {
+        return 0;
+    }
+    long - 1
 }
 
 // In an accepted dictionary a child stands at the position that its number says.

@@ -1,11 +1,11 @@
 // A dictionary's fields, read where specs/Rows says that they stand.
 use numbers::wide;
-use terms::DICTIONARY_MOST;
+use paper::DICTIONARY_MOST;
 ghost use mathlib.Core.Path.{_≡_};
 ghost use Prim.Native.Nat.{_+_, _*_, _≤_, _<_};
 ghost use lib.ListN.{length};
 ghost use Rattle.numbers.specs.Bytes.{short, long};
-ghost use Rattle.dictionary.specs.Rows.{rowAt, rowBytes, headerBytes, tag, truncated, entries, wholeSize, form, kind, nullable, numberIn, childOffset, childCount, firstChild, nameLength, nameOffset};
+ghost use Rattle.dictionary.specs.Rows.{rowAt, rowBytes, headerBytes, tag, truncated, entries, wholeSize, kind, nullable, numberIn, childOffset, childCount, firstChild, nameLength, nameOffset};
 ghost use Rattle.dictionary.specs.Met.{Field};
 
 pub const HEADER_BYTES: usize = 12;

@@ -15,7 +15,7 @@ use native.Mathlib.Omega.{arith}
 use lib.ListN.{length, length-append}
 use lib.Dec.{ltb, leb, eqb}
 use borrow.Author.Tests.{ltb-true, ltb-false, lt-ltb, le-ltb, leb-true, le-leb, eqb-true, eqb-false, eq-eqb, ne-eqb}
-use Rattle.terms.specs.Checks.{choose}
+use Rattle.paper.specs.Checks.{choose}
 use Rattle.numbers.specs.declared.Integer.{Integer}
 use Rattle.numbers.specs.declared.Integer.the-variants.{Plus, Minus}
 use Rattle.numbers.specs.declared.Said.{Said}

@@ -4,20 +4,23 @@
 --   brief-says               the fewest bytes say the integer
 --   brief-size, brief-bytes  they are 1 to 8 bytes
 --   says-held                what 1 to 8 bytes say, 8 bytes hold
+--   twos-complement          what bytes say, in the words of arithmetic
 --   brief-shortest           none that say i are fewer; brief-least: the same of what v says
 use mathlib.Core.Path.{_≡_, refl, ap, _∙_}
 use mathlib.Core.List.{List, [], _∷_}
 use mathlib.Core.Bool.{Bool, true, false}
-use Prim.Native.Nat.{ℕ, zero, suc, _-_, _^_, _<_, _≤_}
+use Prim.Native.Nat.{ℕ, zero, suc, _+_, _-_, _*_, _^_, _<_, _≤_}
 use native.Mathlib.Omega.{arith}
+use native.Mathlib.Nat.{pow-succ'}
 use lib.ListN.{length}
 use lib.Dec.{ltb}
 use borrow.Author.Tests.{ltb-true, ltb-false, lt-ltb, le-ltb}
-use Rattle.terms.specs.Checks.{choose}
+use Rattle.paper.specs.Limits.{integerMost}
+use Rattle.paper.specs.Checks.{choose}
 use Rattle.numbers.specs.declared.Integer.{Integer}
 use Rattle.numbers.specs.declared.Integer.the-variants.{Plus, Minus}
 use Rattle.numbers.specs.Bytes.{Bytes, byte, little}
-use Rattle.numbers.specs.Integer.{flip, integerOf, clear, briefOf, Held}
+use Rattle.numbers.specs.Integer.{flip, integerOf, Complement, clear, briefOf, Held}
 use Rattle.numbers.proofs.Places.{bytes-at}
 use Rattle.numbers.proofs.Little.{limit, limit-up, clear-until, until-bytes, until-few, until-some, until-says, until-top, until-short, little-below}
 
@@ -68,19 +71,19 @@ says-minus v h = rw (le-ltb _ _ h)
 -- of n, below 2 to the 63, the fewest bytes whose top bit is clear
 pub record Clear (n : ℕ) (v : List ℕ) : Type 0 where
   pub some : 1 ≤ length v
-  pub few : length v ≤ 8
+  pub few : length v ≤ integerMost
   pub bytes : Bytes v
   pub top : byte v (length v - 1) < 128
   pub says : little v ≡ n
 
-clear-is : (n : ℕ) → n < 2 ^ 63 → Clear n (clear 8 n)
+clear-is : (n : ℕ) → n < 2 ^ 63 → Clear n (clear integerMost n)
 unfolding limit
 clear-is n h =
-    rw (clear-until 8 n)
+    rw (clear-until integerMost n)
     (record {
       some = until-some 128 7 n;
-      few = until-few 128 8 n;
-      bytes = until-bytes 128 8 n;
+      few = until-few 128 integerMost n;
+      bytes = until-bytes 128 integerMost n;
       top = until-top 128 7 n (omega arith) (omega arith);
       says = until-says 128 7 n (omega arith) (omega arith);
     })
@@ -93,12 +96,12 @@ minus-says n v c = says-minus (flip v) (omega (arith, flip-top v (c .some), c .t
 
 pub brief-says : (i : Integer) → Held i → integerOf (briefOf i) ≡ i
 unfolding briefOf
-brief-says (Plus n) h = plus-says n (clear 8 n) (clear-is n h)
-brief-says (Minus n) h = minus-says n (clear 8 n) (clear-is n h)
+brief-says (Plus n) h = plus-says n (clear integerMost n) (clear-is n h)
+brief-says (Minus n) h = minus-says n (clear integerMost n) (clear-is n h)
 
 pub record Sized (v : List ℕ) : Type 0 where
   pub some : 1 ≤ length v
-  pub few : length v ≤ 8
+  pub few : length v ≤ integerMost
 
 sized : (n : ℕ) (v : List ℕ) → Clear n v → Sized v
 sized n v c = record { some = c .some; few = c .few }
@@ -108,13 +111,13 @@ flip-sized n v c = record { some = omega (arith, flip-long v, c .some); few = om
 
 pub brief-size : (i : Integer) → Held i → Sized (briefOf i)
 unfolding briefOf
-brief-size (Plus n) h = sized n (clear 8 n) (clear-is n h)
-brief-size (Minus n) h = flip-sized n (clear 8 n) (clear-is n h)
+brief-size (Plus n) h = sized n (clear integerMost n) (clear-is n h)
+brief-size (Minus n) h = flip-sized n (clear integerMost n) (clear-is n h)
 
 pub brief-bytes : (i : Integer) → Bytes (briefOf i)
 unfolding briefOf
-brief-bytes (Plus n) = rw (clear-until 8 n) (until-bytes 128 8 n)
-brief-bytes (Minus n) = flip-bytes (clear 8 n)
+brief-bytes (Plus n) = rw (clear-until integerMost n) (until-bytes 128 integerMost n)
+brief-bytes (Minus n) = flip-bytes (clear integerMost n)
 
 -- bytes whose top bit is clear say a number below the limit of their count
 top-limit : (v : List ℕ) → Bytes v → 1 ≤ length v → byte v (length v - 1) < 128 → little v < limit 128 (length v - 1)
@@ -135,12 +138,12 @@ said-minus v h g t =
     let r = top-limit (flip v) (flip-bytes v) (omega (arith, flip-long v)) (omega (arith, flip-top v g, bytes-at v (length v - 1) h)) in
     record { below = rw (flip-long v) at r }
 
-said-held : (v : List ℕ) (n : ℕ) → length v ≤ 8 → Bounded v n → n < 2 ^ 63
+said-held : (v : List ℕ) (n : ℕ) → length v ≤ integerMost → Bounded v n → n < 2 ^ 63
 unfolding limit
 said-held v n l r = omega (arith, r .below, limit-up 128 (length v - 1) 7 (omega arith) (omega arith))
 
-said-short : (v : List ℕ) (n : ℕ) → 1 ≤ length v → Bounded v n → length (clear 8 n) ≤ length v
-said-short v n l r = omega (arith, ap length (clear-until 8 n), until-short 128 8 (length v - 1) n (r .below))
+said-short : (v : List ℕ) (n : ℕ) → 1 ≤ length v → Bounded v n → length (clear integerMost n) ≤ length v
+said-short v n l r = omega (arith, ap length (clear-until integerMost n), until-short 128 integerMost (length v - 1) n (r .below))
 
 abbrev BoundedBy : List ℕ → Integer → Type 0
 BoundedBy v (Plus n) = Bounded v n
@@ -154,7 +157,35 @@ bounded-by v h g = go (ltb (byte v (length v - 1)) 128) refl
     go true e = said-plus v h g (ltb-true _ _ e)
     go false e = said-minus v h g (ltb-false _ _ e)
 
-pub says-held : (v : List ℕ) → Bytes v → 1 ≤ length v → length v ≤ 8 → Held (integerOf v)
+-- bytes and their complement add up to as many bytes of ones
+flip-sum : (v : List ℕ) → Bytes v → little v + little (flip v) + 1 ≡ 256 ^ length v
+unfolding little flip
+flip-sum [] h = refl
+flip-sum (x ∷ v) h =
+    let r = flip-sum v (h .1) in
+    let p : 256 ^ length (x ∷ v) ≡ 256 * 256 ^ length v = pow-succ' 256 (length v) in
+    omega (arith, h .0)
+
+half-limit : (k : ℕ) → 2 * limit 128 k ≡ 256 ^ suc k
+unfolding limit
+half-limit zero = refl
+half-limit (suc k) = let r = half-limit k in omega (arith, r)
+
+below-half : (v : List ℕ) (n : ℕ) → 1 ≤ length v → Bounded v n → 2 * n < 256 ^ length v
+below-half [] n g r = absurd (omega arith)
+below-half (x ∷ v) n g r =
+    let e : length (x ∷ v) - 1 ≡ length v = omega arith in
+    omega (arith, rw e at (r .below), half-limit (length v))
+
+pub twos-complement : (v : List ℕ) → Bytes v → 1 ≤ length v → Complement v (integerOf v)
+unfolding integerOf
+twos-complement v h g = go (ltb (byte v (length v - 1)) 128) refl
+  where
+    go : (t : Bool) → ltb (byte v (length v - 1)) 128 ≡ t → Complement v (choose t (λ _. Plus (little v)) (λ _. Minus (little (flip v))))
+    go true e = (refl, below-half v (little v) g (said-plus v h g (ltb-true _ _ e)))
+    go false e = (flip-sum v h, below-half v (little (flip v)) g (said-minus v h g (ltb-false _ _ e)))
+
+pub says-held : (v : List ℕ) → Bytes v → 1 ≤ length v → length v ≤ integerMost → Held (integerOf v)
 says-held v h g l = go (integerOf v) (bounded-by v h g)
   where
     go : (i : Integer) → BoundedBy v i → Held i
@@ -167,7 +198,7 @@ brief-shortest v i h g e = go i (rw e at (bounded-by v h g))
   where
     go : (i : Integer) → BoundedBy v i → length (briefOf i) ≤ length v
     go (Plus n) r = said-short v n g r
-    go (Minus n) r = omega (arith, flip-long (clear 8 n), said-short v n g r)
+    go (Minus n) r = omega (arith, flip-long (clear integerMost n), said-short v n g r)
 
 pub brief-least : (v : List ℕ) → Bytes v → 1 ≤ length v → length (briefOf (integerOf v)) ≤ length v
 brief-least v h g = brief-shortest v (integerOf v) h g refl

@@ -11,7 +11,7 @@ use native.Mathlib.Omega.{arith}
 use lib.ListN.{length}
 use lib.Dec.{ltb}
 use borrow.Author.Tests.{ltb-true, ltb-false, lt-ltb, le-ltb}
-use Rattle.terms.specs.Checks.{choose}
+use Rattle.paper.specs.Checks.{choose}
 use Rattle.numbers.specs.Bytes.{Bytes, byte, little, lowest}
 use Rattle.numbers.specs.Number.{fewest}
 use Rattle.numbers.specs.Integer.{clear, flip}

@@ -23,9 +23,10 @@ use lib.ListN.{length, drop}
 use lib.Seq.{slice, slice-cons, length-slice, drop-drop}
 use lib.Dec.{ltb, leb}
 use borrow.Author.Tests.{ltb-true, ltb-false, leb-true, leb-false, lt-ltb, le-ltb, lt-leb, le-leb}
-use Rattle.terms.specs.Checks.{choose}
+use Rattle.paper.specs.Limits.{numberLeast, numberMost}
+use Rattle.paper.specs.Checks.{choose}
 use Rattle.numbers.specs.declared.Found.{Found}
-use Rattle.numbers.specs.declared.Found.the-variants.{Fault, Value}
+use Rattle.numbers.specs.declared.Found.the-variants.{Refused, Value}
 use Rattle.numbers.specs.Bytes.{Bytes, byte, little}
 use Rattle.numbers.specs.Number.{Number, numberValue, numberAt, no-width, cut-off, width-zero, too-wide, NumberFault, number-past, width-off, fewest, numberOf}
 use Rattle.numbers.specs.Met.{ValueMet, Within, NumberMet, Standing}
@@ -49,13 +50,13 @@ number-below t = omega (arith, four (t .digits) (t .bytes) (t .least) (t .most),
 pub number-written : (n : ℕ) → n < 2 ^ 32 → Number n (numberOf n)
 unfolding numberOf limit
 number-written n h =
-    let e = fewest-until 4 n in
+    let e = fewest-until numberMost n in
     record {
-      digits = fewest 4 n;
+      digits = fewest numberMost n;
       whole = refl;
       least = omega (arith, ap length e, until-some 256 3 n);
-      most = omega (arith, ap length e, until-few 256 4 n);
-      bytes = rw e (until-bytes 256 4 n);
+      most = omega (arith, ap length e, until-few 256 numberMost n);
+      bytes = rw e (until-bytes 256 numberMost n);
       says = ap little e ∙ until-says 256 3 n (omega arith) (omega arith);
     }
 
@@ -64,7 +65,7 @@ pub number-least : {n : ℕ} {b : List ℕ} (m : ℕ) → m ≤ n → Number n b
 unfolding numberOf
 number-least {n} {b} m h t =
     let g = little-small (t .digits) (t .bytes) (t .least) in
-    omega (arith, ap length (fewest-until 4 m), until-short 256 4 (length (t .digits) - 1) m (omega (arith, t .says)), ap length (t .whole), t .least)
+    omega (arith, ap length (fewest-until numberMost m), until-short 256 numberMost (length (t .digits) - 1) m (omega (arith, t .says)), ap length (t .whole), t .least)
 
 pub record Shortest (n : ℕ) (b : List ℕ) : Type 0 where
   pub written : Number n (numberOf n)
@@ -73,16 +74,16 @@ pub record Shortest (n : ℕ) (b : List ℕ) : Type 0 where
 pub number-shortest : {n : ℕ} {b : List ℕ} → Number n b → Shortest n b
 number-shortest {n} {b} t = record { written = number-written n (number-below t); least = number-least n (omega arith) t }
 
-pub number-long : (n : ℕ) → length (numberOf n) ≡ 1 + length (fewest 4 n)
+pub number-long : (n : ℕ) → length (numberOf n) ≡ 1 + length (fewest numberMost n)
 unfolding numberOf
 number-long n = omega arith
 
 -- there are 2 to 5
 pub number-some : (n : ℕ) → 2 ≤ length (numberOf n)
-number-some n = omega (arith, number-long n, ap length (fewest-until 4 n), until-some 256 3 n)
+number-some n = omega (arith, number-long n, ap length (fewest-until numberMost n), until-some 256 3 n)
 
 pub number-few : (n : ℕ) → length (numberOf n) ≤ 5
-number-few n = omega (arith, number-long n, ap length (fewest-until 4 n), until-few 256 4 n)
+number-few n = omega (arith, number-long n, ap length (fewest-until numberMost n), until-few 256 numberMost n)
 
 pub number-bytes : {n : ℕ} {b : List ℕ} → Number n b → Bytes b
 number-bytes t = rw (t .whole) (omega (arith, t .most), t .bytes)
@@ -124,19 +125,19 @@ number-at s b rest p e n y t h =
     let l : length b ≡ suc (length v) = ap length (t .whole) in
     let a : leb e p ≡ false = lt-leb e p (omega arith) in
     let c : ltb (length v) 1 ≡ false = le-ltb _ _ (t .least) in
-    let d : ltb 4 (length v) ≡ false = le-ltb _ _ (t .most) in
+    let d : ltb numberMost (length v) ≡ false = le-ltb _ _ (t .most) in
     let f : ltb (e - (p + 1)) (length v) ≡ false = le-ltb (e - (p + 1)) (length v) (omega arith) in
     let k : length v ≡ length b - 1 = omega arith in
     rw (g, a, c, d, f, i, t .says, k)
 
 -- what a check that was passed tells
-passed : (t : Bool) (k : ℕ) (rest : Unit {0} → Found) (n w : ℕ) → choose t (λ _. Fault k) rest ≡ Value n w → (t ≡ false) × (rest tt ≡ Value n w)
+passed : (t : Bool) (k : ℕ) (rest : Unit {0} → Found) (n w : ℕ) → choose t (λ _. Refused k) rest ≡ Value n w → (t ≡ false) × (rest tt ≡ Value n w)
 passed true k rest n w e = let z : _≡_ {A = ℕ} 0 1 = cc in absurd (omega arith)
 passed false k rest n w e = (refl, e)
 
 pub record Stands (s : List ℕ) (p e n w : ℕ) : Type 0 where
   pub least : 1 ≤ w
-  pub most : w ≤ 4
+  pub most : w ≤ numberMost
   pub within : p + 1 + w ≤ e
   pub width : byte s p ≡ w
   pub value : little (slice (p + 1) (p + 1 + w) s) ≡ n
@@ -145,8 +146,8 @@ pub stands : (s : List ℕ) (p e n w : ℕ) → numberAt s p e ≡ Value n w →
 unfolding numberAt
 stands s p e n w x =
     let a = passed (leb e p) _ _ n w x in
-    let b = passed (ltb (byte s p) 1) _ _ n w (a .1) in
-    let c = passed (ltb 4 (byte s p)) _ _ n w (b .1) in
+    let b = passed (ltb (byte s p) numberLeast) _ _ n w (a .1) in
+    let c = passed (ltb numberMost (byte s p)) _ _ n w (b .1) in
     let d = passed (ltb (e - (p + 1)) (byte s p)) _ _ n w (c .1) in
     made (leb-false e p (a .0)) (ltb-false _ _ (b .0)) (ltb-false _ _ (c .0)) (ltb-false _ _ (d .0)) (value-of (d .1)) (width-of (d .1))
   where
@@ -156,7 +157,7 @@ stands s p e n w x =
     width-of : {a b c d : ℕ} → Value a b ≡ Value c d → b ≡ d
     width-of e = cc
 
-    made : p < e → 1 ≤ byte s p → byte s p ≤ 4 → byte s p ≤ e - (p + 1) → little (slice (p + 1) (p + 1 + byte s p) s) ≡ n → byte s p ≡ w → Stands s p e n w
+    made : p < e → numberLeast ≤ byte s p → byte s p ≤ numberMost → byte s p ≤ e - (p + 1) → little (slice (p + 1) (p + 1 + byte s p) s) ≡ n → byte s p ≡ w → Stands s p e n w
     made f g h i j k =
         record {
           least = omega arith;
@@ -208,7 +209,7 @@ pub at-within : (s : List ℕ) (p e : ℕ) → Bytes s → e ≤ length s → Wi
 at-within s p e hb he = go (numberAt s p e) refl
   where
     go : (r : Found) → numberAt s p e ≡ r → Within p e r
-    go (Fault k) x = tt
+    go (Refused k) x = tt
     go (Value n w) x =
         let t = stands s p e n w x in
         record { small = number-below (at-number s p e n w hb he x); least = t .least; most = t .most; within = t .within }
@@ -224,7 +225,7 @@ module _ (s : List ℕ) (p e : ℕ) (r : Found) (n w : ℕ) (m : NumberMet s p e
   pub found-least : 1 ≤ w
   found-least = met .least
 
-  pub found-most : w ≤ 4
+  pub found-most : w ≤ numberMost
   found-most = met .most
 
   pub found-within : p + 1 + w ≤ e
@@ -232,20 +233,20 @@ module _ (s : List ℕ) (p e : ℕ) (r : Found) (n w : ℕ) (m : NumberMet s p e
 
 pub ruleset found-bounds = (found-small, found-least, found-most, found-within)
 
-pub number-fault : (s : List ℕ) (p e k : ℕ) → (numberAt s p e ≡ Fault k) ↔ NumberFault s p e k
+pub number-fault : (s : List ℕ) (p e k : ℕ) → (numberAt s p e ≡ Refused k) ↔ NumberFault s p e k
 unfolding numberAt
 number-fault s p e k = (there, back)
   where
-    stop : (t : Bool) (k' : ℕ) (f : Unit {0} → Found) → choose t (λ _. Fault k') f ≡ Fault k → (t ≡ true → k ≡ k' → NumberFault s p e k) → (t ≡ false → f tt ≡ Fault k → NumberFault s p e k) → NumberFault s p e k
+    stop : (t : Bool) (k' : ℕ) (f : Unit {0} → Found) → choose t (λ _. Refused k') f ≡ Refused k → (t ≡ true → k ≡ k' → NumberFault s p e k) → (t ≡ false → f tt ≡ Refused k → NumberFault s p e k) → NumberFault s p e k
     stop true k' f e x y = x refl (cc)
     stop false k' f e x y = y refl e
 
-    there : numberAt s p e ≡ Fault k → NumberFault s p e k
+    there : numberAt s p e ≡ Refused k → NumberFault s p e k
     there x =
         stop (leb e p) _ _ x (λ b i. number-past (no-width (leb-true e p b)) i) λ b₁ x₁.
         let lt = leb-false e p b₁ in
-        stop (ltb (byte s p) 1) _ _ x₁ (λ b i. width-off (width-zero lt (none (byte s p) (ltb-true _ _ b))) i) λ b₂ x₂.
-        stop (ltb 4 (byte s p)) _ _ x₂ (λ b i. width-off (too-wide lt (ltb-true _ _ b)) i) λ b₃ x₃.
+        stop (ltb (byte s p) numberLeast) _ _ x₁ (λ b i. width-off (width-zero lt (none (byte s p) (ltb-true _ _ b))) i) λ b₂ x₂.
+        stop (ltb numberMost (byte s p)) _ _ x₂ (λ b i. width-off (too-wide lt (ltb-true _ _ b)) i) λ b₃ x₃.
         stop (ltb (e - (p + 1)) (byte s p)) _ _ x₃ (λ b i. number-past (cut-off lt (ltb-false _ _ b₂) (ltb-false _ _ b₃) (over (byte s p) lt (ltb-true _ _ b))) i) λ b₄ x₄.
         absurd (let z : _≡_ {A = ℕ} 0 1 = cc in omega arith)
       where
@@ -255,11 +256,11 @@ number-fault s p e k = (there, back)
         over : (n : ℕ) → p < e → e - (p + 1) < n → e < p + 1 + n
         over n g h = omega arith
 
-    back : NumberFault s p e k → numberAt s p e ≡ Fault k
+    back : NumberFault s p e k → numberAt s p e ≡ Refused k
     back (number-past (no-width h) i) = rw (le-leb e p h, i)
-    back (number-past (cut-off h g j c) i) = rw (lt-leb e p h, le-ltb (byte s p) 1 g, le-ltb 4 (byte s p) j, lt-ltb (e - (p + 1)) (byte s p) (omega arith), i)
+    back (number-past (cut-off h g j c) i) = rw (lt-leb e p h, le-ltb (byte s p) numberLeast g, le-ltb numberMost (byte s p) j, lt-ltb (e - (p + 1)) (byte s p) (omega arith), i)
     back (width-off (width-zero h z) i) = rw (lt-leb e p h, z, i)
-    back (width-off (too-wide h g) i) = rw (lt-leb e p h, le-ltb (byte s p) 1 (omega arith), lt-ltb 4 (byte s p) g, i)
+    back (width-off (too-wide h g) i) = rw (lt-leb e p h, le-ltb (byte s p) numberLeast (omega arith), lt-ltb numberMost (byte s p) g, i)
 
 -- the number that is due at the start of the part from p to e
 module _ (s : List ℕ) (p e : ℕ) (order : p ≤ e) (h : e ≤ length s) where

@@ -13,7 +13,9 @@ use lib.Dec.{ltb, leb}
 use borrow.Author.Tests.{lt-ltb, le-ltb, lt-leb, le-leb}
 use mir.Syntax.{w8}
 use mir.Val.{Fits}
-use Rattle.numbers.specs.declared.Found.the-variants.{Fault, Value}
+use Rattle.paper.specs.Limits.{integerLeast, integerMost, numberLeast, numberMost}
+use Rattle.paper.specs.Refusals.{pastEnd, widthWrong}
+use Rattle.numbers.specs.declared.Found.the-variants.{Refused, Value}
 use Rattle.numbers.specs.declared.Integer.{Integer}
 use Rattle.numbers.specs.declared.Integer.the-variants.{Plus, Minus}
 use Rattle.numbers.specs.Bytes.{byte, little}
@@ -95,7 +97,7 @@ one-value s p h =
 
 -- what stands where a number is due, by the tests in their order
 module _ (s : List ℕ) (p e : ℕ) where
-  pub found-none : e ≤ p → NumberMet s p e (Fault 4)
+  pub found-none : e ≤ p → NumberMet s p e (Refused pastEnd)
   unfolding numberAt
   found-none h = record { same = sym (rw (le-leb e p h)); met = tt }
 
@@ -103,42 +105,42 @@ module _ (s : List ℕ) (p e : ℕ) where
     here : leb e p ≡ false
     here = lt-leb e p h
 
-    pub found-narrow : n < 1 → NumberMet s p e (Fault 5)
+    pub found-narrow : n < numberLeast → NumberMet s p e (Refused widthWrong)
     unfolding numberAt
     found-narrow g =
-        let a : ltb (byte s p) 1 ≡ true = lt-ltb (byte s p) 1 (omega (arith, w .same)) in
+        let a : ltb (byte s p) numberLeast ≡ true = lt-ltb (byte s p) numberLeast (omega (arith, w .same)) in
         record { same = sym (rw (here, a)); met = tt }
 
-    pub found-wide : 4 < n → NumberMet s p e (Fault 5)
+    pub found-wide : numberMost < n → NumberMet s p e (Refused widthWrong)
     unfolding numberAt
     found-wide g =
-        let a : ltb (byte s p) 1 ≡ false = le-ltb (byte s p) 1 (omega (arith, w .same)) in
-        let b : ltb 4 (byte s p) ≡ true = lt-ltb 4 (byte s p) (omega (arith, w .same)) in
+        let a : ltb (byte s p) numberLeast ≡ false = le-ltb (byte s p) numberLeast (omega (arith, w .same)) in
+        let b : ltb numberMost (byte s p) ≡ true = lt-ltb numberMost (byte s p) (omega (arith, w .same)) in
         record { same = sym (rw (here, a, b)); met = tt }
 
-    pub found-cut : 1 ≤ n → n ≤ 4 → e - (p + 1) < n → NumberMet s p e (Fault 4)
+    pub found-cut : numberLeast ≤ n → n ≤ numberMost → e - (p + 1) < n → NumberMet s p e (Refused pastEnd)
     unfolding numberAt
     found-cut l m g =
-        let a : ltb (byte s p) 1 ≡ false = le-ltb (byte s p) 1 (omega (arith, w .same)) in
-        let b : ltb 4 (byte s p) ≡ false = le-ltb 4 (byte s p) (omega (arith, w .same)) in
+        let a : ltb (byte s p) numberLeast ≡ false = le-ltb (byte s p) numberLeast (omega (arith, w .same)) in
+        let b : ltb numberMost (byte s p) ≡ false = le-ltb numberMost (byte s p) (omega (arith, w .same)) in
         let c : ltb (e - (p + 1)) (byte s p) ≡ true = lt-ltb (e - (p + 1)) (byte s p) (omega (arith, w .same)) in
         record { same = sym (rw (here, a, b, c)); met = tt }
 
-    pub found-value : (v : ℕ) → 1 ≤ n → n ≤ 4 → n ≤ e - (p + 1) → Summed s (p + 1) (p + 1 + n) false v → NumberMet s p e (Value v n)
+    pub found-value : (v : ℕ) → numberLeast ≤ n → n ≤ numberMost → n ≤ e - (p + 1) → Summed s (p + 1) (p + 1 + n) false v → NumberMet s p e (Value v n)
     unfolding numberAt
     found-value v l m g t =
-        let a : ltb (byte s p) 1 ≡ false = le-ltb (byte s p) 1 (omega (arith, w .same)) in
-        let b : ltb 4 (byte s p) ≡ false = le-ltb 4 (byte s p) (omega (arith, w .same)) in
+        let a : ltb (byte s p) numberLeast ≡ false = le-ltb (byte s p) numberLeast (omega (arith, w .same)) in
+        let b : ltb numberMost (byte s p) ≡ false = le-ltb numberMost (byte s p) (omega (arith, w .same)) in
         let c : ltb (e - (p + 1)) (byte s p) ≡ false = le-ltb (e - (p + 1)) (byte s p) (omega (arith, w .same)) in
         let d : byte s p ≡ n = omega (arith, w .same) in
         let f : p + 1 + n - (p + 1) ≡ n = omega arith in
         let z : v < 256 ^ n = rw f at (t .small) in
         record {
           same = sym (rw (here, a, b, c, d) (ap (λ (k : ℕ). Value k n) (sym (t .same))));
-          met = record { small = omega (arith, z, powers n 4 m); least = l; most = m; within = omega arith };
+          met = record { small = omega (arith, z, powers n numberMost m); least = l; most = m; within = omega arith };
         }
 
-    pub found-cut-one : n ≡ 1 → e - (p + 1) < 1 → NumberMet s p e (Fault 4)
+    pub found-cut-one : n ≡ 1 → e - (p + 1) < 1 → NumberMet s p e (Refused pastEnd)
     found-cut-one l g = found-cut (omega arith) (omega arith) (omega arith)
 
     pub found-one : (v : ℕ) → n ≡ 1 → 1 ≤ e - (p + 1) → e ≤ length s → Widened (byte s (p + 1)) v → NumberMet s p e (Value v 1)
@@ -174,7 +176,7 @@ slice-top s p e h g =
     ∙ ap (byte (take e s)) i
     ∙ getD-take e s (e - 1) 0 (omega arith)
 
-module _ (s : List ℕ) (p e n : ℕ) (k : (i : ℕ) → Fits w8 (getD s i 0)) (h : p + 1 ≤ e) (l : e ≤ p + 8) (g : e ≤ length s) where
+module _ (s : List ℕ) (p e n : ℕ) (k : (i : ℕ) → Fits w8 (getD s i 0)) (h : p + integerLeast ≤ e) (l : e ≤ p + integerMost) (g : e ≤ length s) where
   met : (r : Integer) → r ≡ integerOf (slice p e s) → IntegerMet (slice p e s) r
   met r f =
       let z = length-slice p e s g in

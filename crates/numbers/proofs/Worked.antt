@@ -2,10 +2,11 @@
 -- Assumes nothing.
 use mathlib.Core.Path.{_≡_, refl}
 use mathlib.Core.List.{[], _∷_}
+use Rattle.paper.specs.Refusals.{pastEnd, widthWrong}
 use Rattle.numbers.specs.declared.Integer.{Integer}
 use Rattle.numbers.specs.declared.Integer.the-variants.{Plus, Minus}
 use Rattle.numbers.specs.declared.Said.the-variants.{Wrong}
-use Rattle.numbers.specs.declared.Found.the-variants.{Fault, Value}
+use Rattle.numbers.specs.declared.Found.the-variants.{Refused, Value}
 use Rattle.numbers.specs.Bytes.{little}
 use Rattle.numbers.specs.Number.{numberAt, numberOf, fewest}
 use Rattle.numbers.specs.Integer.{briefOf, flip, clear}
@@ -61,15 +62,15 @@ padded : numberAt (2 ∷ 7 ∷ 0 ∷ []) 0 3 ≡ Value 7 2
 unfolding numberAt little
 padded = refl
 
-none-wide : numberAt (0 ∷ []) 0 1 ≡ Fault 5
+none-wide : numberAt (0 ∷ []) 0 1 ≡ Refused widthWrong
 unfolding numberAt
 none-wide = refl
 
-too-wide : numberAt (5 ∷ []) 0 1 ≡ Fault 5
+too-wide : numberAt (5 ∷ []) 0 1 ≡ Refused widthWrong
 unfolding numberAt
 too-wide = refl
 
-cut : numberAt (2 ∷ 7 ∷ []) 0 2 ≡ Fault 4
+cut : numberAt (2 ∷ 7 ∷ []) 0 2 ≡ Refused pastEnd
 unfolding numberAt
 cut = refl
 

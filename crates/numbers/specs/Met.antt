@@ -1,3 +1,4 @@
+-- Inside the code's contracts alone: nobody needs to believe this page.
 -- What the functions' contracts say, beside an equation to a definition.
 --   Wrote d p t r d'    t is written from p on, and r is the place after it
 --   Widened             a byte as a wider number
@@ -15,9 +16,9 @@ use mathlib.Core.List.{List}
 use mathlib.Core.Bool.{Bool, true, false}
 use lib.ListN.{length}
 use lib.Seq.{sets, slice}
-use Rattle.terms.specs.Limits.{numberLeast, numberMost}
+use Rattle.paper.specs.Limits.{numberLeast, numberMost}
 use Rattle.numbers.specs.declared.Found.{Found}
-use Rattle.numbers.specs.declared.Found.the-variants.{Fault, Value}
+use Rattle.numbers.specs.declared.Found.the-variants.{Refused, Value}
 use Rattle.numbers.specs.Bytes.{byte, little}
 use Rattle.numbers.specs.Number.{numberValue, numberAt}
 use Rattle.numbers.specs.Integer.{flip, integerOf, Held}
@@ -26,7 +27,7 @@ use Rattle.numbers.specs.declared.Integer.{Integer}
 use Rattle.numbers.specs.declared.Integer.the-variants.{Plus, Minus}
 use Rattle.numbers.specs.declared.Said.{Said}
 use Rattle.numbers.specs.declared.Said.the-variants.{Wrong}
-use Rattle.terms.specs.Checks.{choose}
+use Rattle.paper.specs.Checks.{choose}
 use lib.Dec.{eqb}
 
 -- the list d with t stored from p on
@@ -60,7 +61,7 @@ pub record ValueMet (p e n w : ℕ) : Type 0 where
   pub within : p + 1 + w ≤ e
 
 abbrev pub Within : ℕ → ℕ → Found → Type 0
-Within p e (Fault k) = Unit {0}
+Within p e (Refused k) = Unit {0}
 Within p e (Value n w) = ValueMet p e n w
 
 pub record NumberMet (s : List ℕ) (p e : ℕ) (r : Found) : Type 0 where

@@ -10,11 +10,11 @@ use mathlib.Core.List.{List, [], _∷_}
 use lib.ListN.{length}
 use lib.Seq.{slice}
 use lib.Dec.{ltb, leb}
-use Rattle.terms.specs.Limits.{numberLeast, numberMost}
-use Rattle.terms.specs.Refusals.{pastEnd, widthWrong}
-use Rattle.terms.specs.Checks.{choose}
+use Rattle.paper.specs.Limits.{numberLeast, numberMost}
+use Rattle.paper.specs.Refusals.{pastEnd, widthWrong}
+use Rattle.paper.specs.Checks.{choose}
 use Rattle.numbers.specs.declared.Found.{Found}
-use Rattle.numbers.specs.declared.Found.the-variants.{Fault, Value}
+use Rattle.numbers.specs.declared.Found.the-variants.{Refused, Value}
 use Rattle.numbers.specs.Bytes.{Bytes, byte, little}
 
 pub record Number (n : ℕ) (b : List ℕ) : Type 0 where
@@ -31,10 +31,10 @@ numberValue s p = little (slice (p + 1) (p + 1 + byte s p) s)
 -- "In a number, N is judged before its bytes": no byte for N is 4, N outside its limits 5, bytes missing 4
 unfoldable pub numberAt : List ℕ → ℕ → ℕ → Found
 numberAt s p e =
-    choose (leb e p) (λ _. Fault pastEnd) λ _.
-    choose (ltb (byte s p) numberLeast) (λ _. Fault widthWrong) λ _.
-    choose (ltb numberMost (byte s p)) (λ _. Fault widthWrong) λ _.
-    choose (ltb (e - (p + 1)) (byte s p)) (λ _. Fault pastEnd) λ _.
+    choose (leb e p) (λ _. Refused pastEnd) λ _.
+    choose (ltb (byte s p) numberLeast) (λ _. Refused widthWrong) λ _.
+    choose (ltb numberMost (byte s p)) (λ _. Refused widthWrong) λ _.
+    choose (ltb (e - (p + 1)) (byte s p)) (λ _. Refused pastEnd) λ _.
     Value (numberValue s p) (byte s p)
 
 -- "4: a field passes the end": no byte is left for N, or fewer than N after it

@@ -1,14 +1,15 @@
 // Numbers and integers, between bytes and decimal text. What they mean stands in specs/.
-use terms::NUMBER_LEAST;
-use terms::NUMBER_MOST;
-use terms::PAST_END;
-use terms::WIDTH_WRONG;
+use paper::NUMBER_LEAST;
+use paper::NUMBER_MOST;
+use paper::PAST_END;
+use paper::WIDTH_WRONG;
 ghost use mathlib.Core.Path.{_≡_};
 ghost use mathlib.Core.List.{[], _∷_};
 ghost use mathlib.Core.Bool.{true};
 ghost use Prim.Native.Nat.{_+_, _^_, _≤_, _<_};
 ghost use lib.ListN.{length};
 ghost use lib.Seq.{slice};
+ghost use Rattle.paper.specs.Limits.{integerLeast, integerMost, numberMost};
 ghost use Rattle.numbers.specs.Bytes.{lowest};
 ghost use Rattle.numbers.specs.Number.{fewest, numberOf};
 ghost use Rattle.numbers.specs.Integer.{Held, clear, briefOf};
@@ -17,7 +18,7 @@ ghost use Rattle.numbers.specs.Met.{Wrote, Widened, turnedByte, Summed, 
 
 // What stands where a number is due: a refusal's number, or the value and the width N.
 pub enum Found {
-    Fault(u8),
+    Refused(u8),
     Value(usize, usize),
 }
 
@@ -75,25 +76,25 @@ pub fn number_at(s: &[u8], at: usize, end: usize) -> Found
     ensures { λ r. ⌜ NumberMet (now (s .entry)) at end r ⌝ }
 {
     if end <= at {
-        return Found::Fault(PAST_END);
+        return Found::Refused(PAST_END);
     }
     let from = at + 1;
     let left = end - from;
     let n = wide(s[at]);
     if n == 1 {
         if left < 1 {
-            return Found::Fault(PAST_END);
+            return Found::Refused(PAST_END);
         }
         return Found::Value(wide(s[from]), 1);
     }
     if n < NUMBER_LEAST {
-        return Found::Fault(WIDTH_WRONG);
+        return Found::Refused(WIDTH_WRONG);
     }
     if NUMBER_MOST < n {
-        return Found::Fault(WIDTH_WRONG);
+        return Found::Refused(WIDTH_WRONG);
     }
     if left < n {
-        return Found::Fault(PAST_END);
+        return Found::Refused(PAST_END);
     }
     Found::Value(little_at(s, from, from + n, false) as usize, n)
 }
@@ -112,7 +113,7 @@ pub fn number_value(s: &[u8], at: usize) -> usize
 }
 
 pub fn integer_at(s: &[u8], at: usize, end: usize) -> Integer
-    requires { ⌜ (at + 1 ≤ end) × (end ≤ at + 8) × (end ≤ length (now s)) ⌝ }
+    requires { ⌜ (at + integerLeast ≤ end) × (end ≤ at + integerMost) × (end ≤ length (now s)) ⌝ }
     ensures { λ r. ⌜ IntegerMet (slice at end (now (s .entry))) r ⌝ }
 {
     if s[end - 1] < 128 {
@@ -147,7 +148,7 @@ pub fn put_lowest(out: &mut [u8], pos: usize, n: u64, k: usize) -> usize
 
 // Tests and no loop: most are one byte.
 pub fn number_width(n: usize) -> usize
-    ensures { λ r. ⌜ r ≡ length (fewest 4 n) ⌝ }
+    ensures { λ r. ⌜ r ≡ length (fewest numberMost n) ⌝ }
 {
     if n < 256 {
         return 1;
@@ -173,7 +174,7 @@ pub fn put_number(out: &mut [u8], pos: usize, n: usize) -> usize
 // How many bytes n has whose top bit is clear.
 fn clear_width(n: u64) -> usize
     requires { ⌜ n < 2 ^ 63 ⌝ }
-    ensures { λ r. ⌜ r ≡ length (clear 8 n) ⌝ }
+    ensures { λ r. ⌜ r ≡ length (clear integerMost n) ⌝ }
 {
     let mut x = n;
     let mut w: usize = 1;

@@ -1,9 +1,0 @@
--- `checker::has_none` meets its contract: offset 0 and count 0.
--- Assumes nothing.
-use Rattle.checker.proofs.Headers.{nones}
-use Rattle.checker.proofs.has_none.Statement.{statement}
-use Rattle.checker.proofs.has_none.Tie as tie
-use borrow.Author.Needs.{needs}
-
-pub has-none-spec : {M : Type 1} → statement M
-has-none-spec = tie.close (tie.spec (λ c κs. search needs) (λ c κs. search needs) (λ c. search (nones, needs)) (λ c. search (nones, needs)))

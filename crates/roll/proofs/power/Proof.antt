@@ -1,9 +1,0 @@
--- `roll::power` meets its contract: the table holds the powers of 2.
--- Assumes nothing.
-use borrow.Author.Needs.{needs}
-use Rattle.roll.proofs.Bits.{bits-rules}
-use Rattle.roll.proofs.power.Statement.{statement}
-use Rattle.roll.proofs.power.Tie as tie
-
-pub power-spec : {M : Type 1} → statement M
-power-spec = tie.close (tie.spec (λ c. search (bits-rules, needs)) (λ c κs. search (bits-rules, needs)) (λ c. search (bits-rules, needs)))

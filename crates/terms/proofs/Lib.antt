@@ -1,4 +1,0 @@
--- Laws that the crates above cite.
-pub mod Tests
-pub mod Checks
-pub mod Lending
