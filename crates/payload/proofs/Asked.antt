@@ -13,11 +13,11 @@ use native.Mathlib.Omega.{arith}
 use lib.ListN.{length, drop}
 use lib.Dec.{ltb, leb, eqb}
 use borrow.Author.Tests.{ltb-false, leb-true, leb-false, eqb-true, eqb-false, not-true, le-ltb, lt-leb, le-leb, eq-eqb, ne-eqb}
-use Rattle.terms.specs.Limits.{payloadLeast, depthMost}
-use Rattle.terms.specs.Refusals.{pastEnd, notInBase, misfit}
-use Rattle.terms.specs.Checks.{Judged, good, refuse, need}
-use Rattle.terms.proofs.Tests.{and-left, and-right}
-use Rattle.terms.proofs.Checks.{passed, needed}
+use Rattle.paper.specs.Limits.{payloadLeast, depthMost}
+use Rattle.paper.specs.Refusals.{pastEnd, notInBase, misfit}
+use Rattle.paper.specs.Checks.{Judged, good, refuse, need}
+use Rattle.paper.proofs.Tests.{and-left, and-right}
+use Rattle.paper.proofs.Checks.{passed, needed}
 use Rattle.numbers.specs.declared.Found.the-variants.{Value}
 use Rattle.numbers.specs.Bytes.{Bytes, byte}
 use Rattle.numbers.specs.Number.{Number, numberAt}
@@ -46,7 +46,7 @@ pub record Base (f : ℕ) : Type 0 where
 
 pub supported-of : (x f : ℕ) → x / 16 ≡ f → x % 2 ≡ 0 → Base f → supported x ≡ true
 unfolding supported
-supported-of x f e z b = rw (e, eq-eqb _ _ z, ne-eqb f 6 (b .not-real), le-leb f 7 (b .high))
+supported-of x f e z b = rw (e, eq-eqb _ _ z, ne-eqb f realForm (b .not-real), le-leb f booleanForm (b .high))
 
 pub supported-is : (x : ℕ) → supported x ≡ true → (x % 2 ≡ 0) × Base (x / 16)
 unfolding supported
@@ -54,8 +54,8 @@ supported-is x e =
     let a = and-left _ _ e in (
       eqb-true (x % 2) 0 (and-left _ _ a),
       record {
-        high = leb-true (x / 16) 7 (and-right (eqb (x % 2) 0 && not (eqb (x / 16) 6)) _ e);
-        not-real = eqb-false (x / 16) 6 (not-true _ (and-right (eqb (x % 2) 0) _ a));
+        high = leb-true (x / 16) booleanForm (and-right (eqb (x % 2) 0 && not (eqb (x / 16) realForm)) _ e);
+        not-real = eqb-false (x / 16) realForm (not-true _ (and-right (eqb (x % 2) 0) _ a));
       },
     )
 

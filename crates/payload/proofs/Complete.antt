@@ -11,9 +11,11 @@ use Prim.Native.Nat.{ℕ, zero, suc, _+_, _-_, _≤_}
 use native.Mathlib.Omega.{arith}
 use lib.ListN.{length}
 use borrow.Author.Tests.{le-ltb, eq-eqb}
-use Rattle.terms.specs.Checks.{Judged, good}
+use Rattle.paper.specs.Checks.{Judged, good}
 use Rattle.numbers.specs.Number.{Number}
-use Rattle.payload.specs.Tree.{Scalar, null, integer, option, string, boolean, Shape, aSet, anArray, Tuples, none, scalar, inner, formatOf, shapeFormat, size, count, depth}
+use Rattle.payload.specs.Tree.{Scalar, null, integer, option, string, boolean, Tuples, none, scalar, inner, formatOf, shapeFormat, size, count, depth}
+use Rattle.payload.specs.declared.Shape.{Shape}
+use Rattle.payload.specs.declared.Shape.the-variants.{Set, Array}
 use Rattle.payload.specs.Writes.{Cut, Tuple, Holds, Writes}
 use Rattle.payload.specs.Fits.{known, child, fresh, fits, allowed, Sits, Fits}
 use Rattle.payload.specs.Reading.{Single, plain, group, numberFor, before, value, bodyAt, tupleAt, run, insideOf}
@@ -49,8 +51,8 @@ module _ (d s : List ℕ) (inside : ℕ → ℕ → ℕ → ℕ → ℕ → Judg
   body-scalar n r at p q l x v y h a = rw (le-ltb (formatOf x) 2 (scalar-high x), lies-is s v p q y, scalar-complete d r x v h a)
 
   body-inner : (n r at p q l m : ℕ) (g : Shape) (kids : Tuples) → inside r at p q l ≡ good q m kids → bodyAt d s inside n r (shapeFormat g) at p q l ≡ good q m (group n g kids)
-  body-inner n r at p q l m aSet kids h = rw h
-  body-inner n r at p q l m anArray kids h = rw h
+  body-inner n r at p q l m Set kids h = rw h
+  body-inner n r at p q l m Array kids h = rw h
 
 pub run-more : (d s : List ℕ) (tuple : ℕ → ℕ → List ℕ → ℕ → ℕ → ℕ → Judged Single) (row k i : ℕ) (seen : List ℕ) (p e l q m z j : ℕ) (x : Single) (rest : Tuples) → tuple row i seen p e l ≡ good q m x → run d s tuple row k (suc i) (numberFor x ∷ seen) q e m ≡ good z j rest → run d s tuple row (suc k) i seen p e l ≡ good z j (before x rest)
 unfolding run

@@ -14,11 +14,11 @@ use native.Mathlib.Omega.{arith}
 use lib.ListN.{length}
 use lib.Dec.{ltb, leb, eqb}
 use borrow.Author.Tests.{ltb-true, ltb-false, leb-true, leb-false, eqb-true, eqb-false, le-ltb, lt-leb, eq-eqb, ne-eqb}
-use Rattle.terms.specs.Refusals.{pastEnd, widthWrong, notKnown, givenTwice, notInBase, misfit, valueWrong, tooDeep, budgetSpent}
-use Rattle.terms.specs.Checks.{Judged, refused, refuse, need}
-use Rattle.terms.proofs.Checks.{refuse-stop, need-stop, refuse-like, need-like}
+use Rattle.paper.specs.Refusals.{pastEnd, widthWrong, notKnown, givenTwice, notInBase, misfit, valueWrong, tooDeep, budgetSpent}
+use Rattle.paper.specs.Checks.{Judged, refused, refuse, need}
+use Rattle.paper.proofs.Checks.{refuse-stop, need-stop, refuse-like, need-like}
 use Rattle.numbers.specs.declared.Found.{Found}
-use Rattle.numbers.specs.declared.Found.the-variants.{Fault, Value}
+use Rattle.numbers.specs.declared.Found.the-variants.{Refused, Value}
 use Rattle.numbers.specs.Bytes.{Bytes, byte}
 use Rattle.numbers.specs.Number.{numberAt, NumberFault, number-past, width-off}
 use Rattle.numbers.proofs.Numbers.{number-fault}
@@ -26,12 +26,13 @@ use Rattle.payload.specs.Tree.{Scalar}
 use Rattle.payload.specs.Values.{Valued, wrong, worth}
 use Rattle.payload.specs.Reading.{Single, asked, number, value, supported, bodyAt, insideOf}
 use Rattle.payload.specs.Lying.{Read}
-use Rattle.payload.specs.Refusing.{Spot, Begun, Numbered, Formed, Measured, Due, its-S, its-L, PastEnd, number-passes, form-passes, value-passes, WidthWrong, width-wrong, NotKnown, not-known, GivenTwice, given-twice, NotInBase, annotated, unsupported, Misfit, misfitting, ValueWrong, TooDeep, BudgetSpent, Fails}
+use Rattle.payload.specs.Reached.{Spot, Begun, Numbered, Formed, Measured, Due, its-S, its-L}
+use Rattle.payload.specs.Refusing.{PastEnd, number-passes, form-passes, value-passes, WidthWrong, width-wrong, NotKnown, not-known, GivenTwice, given-twice, NotInBase, annotated, unsupported, Misfit, misfitting, ValueWrong, TooDeep, BudgetSpent}
 use Rattle.payload.proofs.Lying.{number-read, number-goes}
 
 module _ {A : Type 0} {k w : ℕ} {R : Type 0} where
-  pub number-stop : (r : Found) (at p : ℕ) (f : ℕ → ℕ → Judged A) → number r at p f ≡ refused k w → (r ≡ Fault k → w ≡ at → R) → ((n v : ℕ) → r ≡ Value n v → f n (p + 1 + v) ≡ refused k w → R) → R
-  number-stop (Fault k') at p f e x y = x (cc) (cc)
+  pub number-stop : (r : Found) (at p : ℕ) (f : ℕ → ℕ → Judged A) → number r at p f ≡ refused k w → (r ≡ Refused k → w ≡ at → R) → ((n v : ℕ) → r ≡ Value n v → f n (p + 1 + v) ≡ refused k w → R) → R
+  number-stop (Refused k') at p f e x y = x (cc) (cc)
   number-stop (Value n v) at p f e x y = y n v refl e
 
   pub value-stop : (r : Valued) (at : ℕ) (f : Scalar → Judged A) → value r at f ≡ refused k w → (r ≡ wrong k → w ≡ at → R) → ((x : Scalar) → r ≡ worth x → f x ≡ refused k w → R) → R
@@ -39,7 +40,7 @@ module _ {A : Type 0} {k w : ℕ} {R : Type 0} where
   value-stop (worth z) at f e x y = y z refl e
 
 number-like : {A B : Type 0} {k w : ℕ} (r : Found) (at p : ℕ) (f : ℕ → ℕ → Judged A) (g : ℕ → ℕ → Judged B) → ((n q : ℕ) → f n q ≡ refused k w → g n q ≡ refused k w) → number r at p f ≡ refused k w → number r at p g ≡ refused k w
-number-like {A} {B} {k} {w} (Fault k') at p f g H e = let i : k' ≡ k = cc in let j : at ≡ w = cc in rw (i, j)
+number-like {A} {B} {k} {w} (Refused k') at p f g H e = let i : k' ≡ k = cc in let j : at ≡ w = cc in rw (i, j)
 number-like (Value n v) at p f g H e = H n (p + 1 + v) e
 
 abbrev pub askedAt : {A : Type 0} → List ℕ → Spot → (ℕ → ℕ → ℕ → ℕ → Judged A) → Judged A
@@ -102,43 +103,19 @@ module _ (s : List ℕ) (x : Spot) {A : Type 0} (body : ℕ → ℕ → ℕ → 
   pub asked-measured : (n f q z : ℕ) → Measured s x n f q z → askedAt s x body ≡ body n f q z
   asked-measured n f q z m = asked-read n (m .place) (m .long) q (m .formed) (m .number) ∙ rw (le-ltb (x .end - q) (m .long) (omega (arith, m .ends, m .within)), m .format, m .ends)
 
+-- the lines of the table that speak of a tuple, by their number
+pub data Fails (d s : List ℕ) (k : ℕ) (x : Spot) : Type 0 where
+  fails-4 : k ≡ pastEnd → PastEnd s x → Fails d s k x
+  fails-5 : k ≡ widthWrong → WidthWrong s x → Fails d s k x
+  fails-6 : k ≡ notKnown → NotKnown s x → Fails d s k x
+  fails-7 : k ≡ givenTwice → GivenTwice s x → Fails d s k x
+  fails-8 : k ≡ notInBase → NotInBase s x → Fails d s k x
+  fails-9 : k ≡ misfit → Misfit s x → Fails d s k x
+  fails-10 : k ≡ valueWrong → ValueWrong d s x → Fails d s k x
+  fails-11 : k ≡ tooDeep → TooDeep s x → Fails d s k x
+  fails-12 : k ≡ budgetSpent → BudgetSpent x → Fails d s k x
+
 module _ (d s : List ℕ) (x : Spot) {k : ℕ} where
-  pub fails-4 : k ≡ pastEnd → PastEnd s x → Fails d s k x
-  unfolding Fails
-  fails-4 i h = rw i h
-
-  pub fails-5 : k ≡ widthWrong → WidthWrong s x → Fails d s k x
-  unfolding Fails
-  fails-5 i h = rw i h
-
-  pub fails-6 : k ≡ notKnown → NotKnown s x → Fails d s k x
-  unfolding Fails
-  fails-6 i h = rw i h
-
-  pub fails-7 : k ≡ givenTwice → GivenTwice s x → Fails d s k x
-  unfolding Fails
-  fails-7 i h = rw i h
-
-  pub fails-8 : k ≡ notInBase → NotInBase s x → Fails d s k x
-  unfolding Fails
-  fails-8 i h = rw i h
-
-  pub fails-9 : k ≡ misfit → Misfit s x → Fails d s k x
-  unfolding Fails
-  fails-9 i h = rw i h
-
-  pub fails-10 : k ≡ valueWrong → ValueWrong d s x → Fails d s k x
-  unfolding Fails
-  fails-10 i h = rw i h
-
-  pub fails-11 : k ≡ tooDeep → TooDeep s x → Fails d s k x
-  unfolding Fails
-  fails-11 i h = rw i h
-
-  pub fails-12 : k ≡ budgetSpent → BudgetSpent x → Fails d s k x
-  unfolding Fails
-  fails-12 i h = rw i h
-
   pub due-fails : (p e : ℕ) → Due s x p e → NumberFault s p e k → Fails d s k x
   due-fails p e u (number-past h i) = fails-4 i (number-passes p e u h)
   due-fails p e u (width-off h i) = fails-5 i (width-wrong p e u h)
@@ -150,26 +127,26 @@ module _ (d s : List ℕ) (x : Spot) {A : Type 0} (body : ℕ → ℕ → ℕ �
   pub asked-stop : Bytes s → x .end ≤ length s → askedAt s x body ≡ refused k w → (Fails d s k x → w ≡ x .start → R) → ((n f q z : ℕ) → Measured s x n f q z → body n f q z ≡ refused k w → R) → R
   unfolding asked
   asked-stop hb he x₀ own inner =
-      refuse-stop (eqb (x .left) 0) _ _ _ x₀ (λ b i j. own (fails-12 d s x i (eqb-true (x .left) 0 b)) j) λ b₁ x₁.
+      refuse-stop (eqb (x .left) 0) _ _ _ x₀ (λ b i j. own (fails-12 i (eqb-true (x .left) 0 b)) j) λ b₁ x₁.
       let some = one-at-least (x .left) (eqb-false (x .left) 0 b₁) in
       number-stop (numberAt s (x .start) (x .end)) _ _ _ x₁ (λ f j. own (due-fails d s x (x .start) (x .end) (its-S some refl refl) (number-fault s (x .start) (x .end) k .0 f)) j) λ S v g x₂.
       let n = S / 2 in
       let p = x .start + 1 + v in
       let r = number-read s (x .start) (x .end) S v hb he g in
-      need-stop (eqb (S % 2) 0) _ _ _ x₂ (λ b i j. own (fails-8 d s x i (annotated n p some (reread (odd S (eqb-false _ _ b)) r))) j) λ b₂ x₃.
+      need-stop (eqb (S % 2) 0) _ _ _ x₂ (λ b i j. own (fails-8 i (annotated n p some (reread (odd S (eqb-false _ _ b)) r))) j) λ b₂ x₃.
       let begun : Begun s x n p = record { some = some; number = reread (even S (eqb-true _ _ b₂)) r } in
-      need-stop (x .knows n) _ _ _ x₃ (λ b i j. own (fails-6 d s x i (not-known n p begun b)) j) λ b₃ x₄.
-      need-stop (x .news n) _ _ _ x₄ (λ b i j. own (fails-7 d s x i (given-twice n p begun b₃ b)) j) λ b₄ x₅.
+      need-stop (x .knows n) _ _ _ x₃ (λ b i j. own (fails-6 i (not-known n p begun b)) j) λ b₃ x₄.
+      need-stop (x .news n) _ _ _ x₄ (λ b i j. own (fails-7 i (given-twice n p begun b₃ b)) j) λ b₄ x₅.
       let numbered : Numbered s x n p = record { begun = begun; is-known = b₃; is-new = b₄ } in
-      refuse-stop (leb (x .end) p) _ _ _ x₅ (λ b i j. own (fails-4 d s x i (form-passes n p numbered (leb-true (x .end) p b))) j) λ b₅ x₆.
+      refuse-stop (leb (x .end) p) _ _ _ x₅ (λ b i j. own (fails-4 i (form-passes n p numbered (leb-true (x .end) p b))) j) λ b₅ x₆.
       let lt = leb-false (x .end) p b₅ in
-      need-stop (supported (byte s p)) _ _ _ x₆ (λ b i j. own (fails-8 d s x i (unsupported n p numbered lt b)) j) λ b₆ x₇.
-      need-stop (x .suits n (byte s p / 16)) _ _ _ x₇ (λ b i j. own (fails-9 d s x i (misfitting n p numbered lt b₆ b)) j) λ b₇ x₈.
+      need-stop (supported (byte s p)) _ _ _ x₆ (λ b i j. own (fails-8 i (unsupported n p numbered lt b)) j) λ b₆ x₇.
+      need-stop (x .suits n (byte s p / 16)) _ _ _ x₇ (λ b i j. own (fails-9 i (misfitting n p numbered lt b₆ b)) j) λ b₇ x₈.
       let formed : Formed s x n p = record { numbered = numbered; within = lt; supports = b₆; does-suit = b₇ } in
       number-stop (numberAt s (p + 1) (x .end)) _ _ _ x₈ (λ f j. own (due-fails d s x (p + 1) (x .end) (its-L n p formed refl refl) (number-fault s (p + 1) (x .end) k .0 f)) j) λ len u g' x₉.
       let q = p + 1 + 1 + u in
       let r' = number-read s (p + 1) (x .end) len u hb he g' in
-      refuse-stop (ltb (x .end - q) len) _ _ _ x₉ (λ b i j. own (fails-4 d s x i (value-passes n p len q formed r' (over q len (ltb-true (x .end - q) len b)))) j) λ b₈ y.
+      refuse-stop (ltb (x .end - q) len) _ _ _ x₉ (λ b i j. own (fails-4 i (value-passes n p len q formed r' (over q len (ltb-true (x .end - q) len b)))) j) λ b₈ y.
       inner n (byte s p / 16) q (q + len) (record { place = p; long = len; formed = formed; format = refl; number = r'; ends = refl; within = under q len (r' .within) (ltb-false (x .end - q) len b₈) }) y
     where
       one-at-least : (l : ℕ) → (l ≡ 0 → ⊥) → 1 ≤ l

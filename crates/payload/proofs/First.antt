@@ -15,12 +15,12 @@ use lib.ListN.{length}
 use lib.Seq.{slice}
 use lib.Dec.{eqb}
 use borrow.Author.Tests.{ltb-false, eqb-true, eqb-false}
-use Rattle.terms.specs.Limits.{payloadLeast, depthMost}
-use Rattle.terms.specs.Refusals.{tooDeep}
-use Rattle.terms.specs.Checks.{choose, Judged, refused, good, after}
-use Rattle.terms.proofs.Checks.{never, same-place, same-left, same-thing, followed, need-stop, after-stop}
+use Rattle.paper.specs.Limits.{payloadLeast, depthMost}
+use Rattle.paper.specs.Refusals.{tooDeep}
+use Rattle.paper.specs.Checks.{choose, Judged, refused, good, after}
+use Rattle.paper.proofs.Checks.{never, same-place, same-left, same-thing, followed, need-stop, after-stop}
 use Rattle.numbers.specs.declared.Found.{Found}
-use Rattle.numbers.specs.declared.Found.the-variants.{Fault, Value}
+use Rattle.numbers.specs.declared.Found.the-variants.{Refused, Value}
 use Rattle.numbers.specs.Bytes.{Bytes}
 use Rattle.numbers.specs.Number.{numberAt}
 use Rattle.numbers.proofs.Places.{bytes-slice}
@@ -30,7 +30,9 @@ use Rattle.payload.specs.Tree.{Tuples, none}
 use Rattle.payload.specs.Values.{scalarValue, wrong}
 use Rattle.payload.specs.Reading.{Single, plain, group, numberFor, before, value, shapeOf, isGroup, bodyAt, tupleAt, run, insideOf, rootAt}
 use Rattle.payload.specs.Lying.{Read}
-use Rattle.payload.specs.Refusing.{Many, numbers, Spot, rootSpot, memberSpot, Measured, Nested, Counted, its-count, its-option, wrong-scalar, left-over, too-deep, Next, Reached, at-root, further, Somewhere, Fails}
+use Rattle.payload.specs.Reached.{Many, numbers, Spot, rootSpot, memberSpot, Measured, Nested, Counted, its-count, its-option, Next, Reached, at-root, further, Somewhere}
+use Rattle.payload.specs.Refusing.{wrong-scalar, left-over, too-deep}
+use Rattle.payload.proofs.Faults.{Fails, fails-10, fails-11}
 use Rattle.payload.proofs.Lying.{number-read, number-goes}
 use Rattle.payload.proofs.Scalars.{Misvalued, no-option, no-scalar, misvalued}
 use Rattle.payload.proofs.Asked.{tuple-asked, root-asked}
@@ -150,11 +152,11 @@ module _ (d s : List ℕ) (budget : ℕ) where
 
         read : (j v : ℕ) → numberAt (slice q z s) 0 (length (slice q z s)) ≡ Value j v → (r : Found) → numberAt s q z ≡ r → (i : ℕ) × (p : ℕ) × Read s q z i p
         read j v e (Value i u) f = (i, q + 1 + u, number-read s q z i u hb end f)
-        read j v e (Fault c) f = absurd (let a = part-back s q z (order-of s x m) end c f in let b : _≡_ {A = ℕ} 0 1 = cc in omega arith)
+        read j v e (Refused c) f = absurd (let a = part-back s q z (order-of s x m) end c f in let b : _≡_ {A = ℕ} 0 1 = cc in omega arith)
 
         go : Misvalued d (x .rowFor n) f (slice q z s) k → Fails d s k x
         go (no-option e i) = due-fails d s x q z (its-option n (option e)) (number-fault s q z k .0 (part-there s q z (order-of s x m) end k i))
-        go (no-scalar o nothing i) = fails-10 d s x i (wrong-scalar n f q z m (none-wrong d s (x .rowFor n) f q z hb (order-of s x m) end nothing (λ e. let u = o e in read (u .0) (u .1) (u .2) (numberAt s q z) refl) (ltb-false f 2 g) (base-of s x m)))
+        go (no-scalar o nothing i) = fails-10 i (wrong-scalar n f q z m (none-wrong d s (x .rowFor n) f q z hb (order-of s x m) end nothing (λ e. let u = o e in read (u .0) (u .1) (u .2) (numberAt s q z) refl) (ltb-false f 2 g) (base-of s x m)))
 
     -- the value of a set or array within the depth
     inside-fault : (x : Spot) → Reached d s budget x → (row q z room : ℕ) → Nested s x row q z room → ((y : Spot) → y .room ≡ room → Reached d s budget y → judgedAt d s y ≡ refused k w → Somewhere d s budget (Fails d s k) w) → insideOf d s (suc room) row (x .start) q z (x .left - 1) ≡ refused k w → Somewhere d s budget (Fails d s k) w
@@ -167,7 +169,7 @@ module _ (d s : List ℕ) (budget : ℕ) where
         let tuple = tupleAt d s (insideOf d s room) in
         after-stop (run d s tuple row n 0 [] p z (x .left - 1)) _ y₁ (λ y. next n p c (run-stopped d room s row z k w tuple end (ones d s hb room row z end) n 0 [] p (x .left - 1) (u .within) y)) λ o m t g' y₂.
         let y = run-sound d room s row z end tuple (ones d s hb room row z end) n 0 [] p (x .left - 1) o m t (u .within) g' in
-        need-stop (eqb o z) _ _ _ y₂ (λ b i j. here x r (fails-10 d s x i (left-over row z room n p o m t c y (below o (eqb-false o z b) (y .within)))) j) λ b y₃. never (sym y₃)
+        need-stop (eqb o z) _ _ _ y₂ (λ b i j. here x r (fails-10 i (left-over row z room n p o m t c y (below o (eqb-false o z b) (y .within)))) j) λ b y₃. never (sym y₃)
       where
         end : z ≤ length s
         end = omega (arith, nest .measured .within, reached-end x r)
@@ -192,7 +194,7 @@ module _ (d s : List ℕ) (budget : ℕ) where
 
     -- the value of a set or array, and then any tuple: the nesting left falls
     group-fault : (room : ℕ) (x : Spot) → x .room ≡ room → Reached d s budget x → ((y : Spot) (r : ℕ) → suc r ≡ room → y .room ≡ r → Reached d s budget y → judgedAt d s y ≡ refused k w → Somewhere d s budget (Fails d s k) w) → (n f q z : ℕ) → Measured s x n f q z → isGroup f ≡ true → insideOf d s (x .room) (x .rowFor n) (x .start) q z (x .left - 1) ≡ refused k w → Somewhere d s budget (Fails d s k) w
-    group-fault zero x e r H n f q z m g h = let y = depth-fault x (x .rowFor n) q z e h in here x r (fails-11 d s x (y .0) (too-deep n f q z m g e)) (y .1)
+    group-fault zero x e r H n f q z m g h = let y = depth-fault x (x .rowFor n) q z e h in here x r (fails-11 (y .0) (too-deep n f q z m g e)) (y .1)
     group-fault (suc room) x e r H n f q z m g h =
         inside-fault x r (x .rowFor n) q z room (record { number = n; form = f; measured = m; grouped = g; row-is = refl; deep = e }) (λ y. H y room refl) (rw e at h)
 

@@ -14,20 +14,21 @@ use native.Mathlib.Omega.{arith}
 use lib.ListN.{length}
 use lib.Dec.{ltb, eqb}
 use borrow.Author.Tests.{ltb-true, ltb-false, le-ltb, eqb-false, ne-eqb}
-use Rattle.terms.specs.Limits.{payloadLeast, payloadMost, textMost}
-use Rattle.terms.specs.Refusals.{dictionaryWrong, lengthWrong, headerDiffers, pastEnd, widthWrong, notKnown, givenTwice, notInBase, misfit, valueWrong, tooDeep, budgetSpent, afterRoot, noRoom}
-use Rattle.terms.specs.Checks.{choose, Judged, refused, good, need, after}
-use Rattle.terms.proofs.Tests.{or-left, or-right, not-so, true-so, so-not}
+use Rattle.paper.specs.Limits.{payloadLeast, payloadMost, textMost}
+use Rattle.paper.specs.Refusals.{dictionaryWrong, lengthWrong, headerDiffers, pastEnd, budgetSpent, afterRoot, noRoom}
+use Rattle.paper.specs.Checks.{choose, Judged, refused, good, need, after}
+use Rattle.paper.proofs.Tests.{or-left, or-right, not-so, true-so, so-not}
 use Rattle.numbers.specs.Bytes.{Bytes}
 use Rattle.dictionary.specs.Accepts.{accepts}
 use Rattle.payload.specs.Tree.{Tuples}
-use Rattle.payload.specs.Header.{headerFine}
+use Rattle.payload.specs.Header.{headerAgrees}
 use Rattle.payload.specs.Text.{rootText, rootCount, Means}
 use Rattle.payload.specs.Reading.{rootAt, treeOf, Outcome, refusal, result, fitted, spoken, reads}
-use Rattle.payload.specs.Refusing.{InTable, Headed, Passed, Front, Roomy, Overlong, PastEnd, WidthWrong, NotKnown, GivenTwice, NotInBase, Misfit, ValueWrong, TooDeep, BudgetSpent, Somewhere, Fails, Line}
+use Rattle.payload.specs.Reached.{Spot, Somewhere}
+use Rattle.payload.specs.Refusing.{InTable, WithHeader, Passed, Front, Roomy, PastEnd, WidthWrong, NotKnown, GivenTwice, NotInBase, Misfit, ValueWrong, TooDeep, BudgetSpent, Line, line-1, line-2, line-3, line-4, line-5, line-6, line-7, line-8, line-9, line-10, line-11, line-12, line-13, line-14}
+use Rattle.payload.proofs.Faults.{Fails, fails-4, fails-5, fails-6, fails-7, fails-8, fails-9, fails-10, fails-11, fails-12}
 use Rattle.payload.proofs.Root.{headed-fine, fine-headed, root-complete, root-sound}
 use Rattle.payload.proofs.Exactly.{payload-rooted, rooted-payload, tree-sound, tree-complete, reads-on, reads-complete, no-result}
-use Rattle.payload.proofs.Refused.{step}
 use Rattle.payload.proofs.First.{root-first}
 use Rattle.payload.proofs.Placed.{Late, Placed, placed-refused, root-placed}
 
@@ -35,7 +36,7 @@ module _ (d s : List ℕ) (budget room : ℕ) where
   pub data Course (o : Outcome) : Type 0 where
     unaccepted : accepts d ≡ false → o ≡ refusal dictionaryWrong 0 → Course o
     unsized : accepts d ≡ true → (InTable s → ⊥) → o ≡ refusal lengthWrong 0 → Course o
-    unheaded : accepts d ≡ true → InTable s → (Headed s → ⊥) → o ≡ refusal headerDiffers 0 → Course o
+    unheaded : accepts d ≡ true → InTable s → (WithHeader s → ⊥) → o ≡ refusal headerDiffers 0 → Course o
     faulty : Passed d s → (k w : ℕ) → Late payloadLeast (length s) k w → Somewhere d s budget (Fails d s k) w → o ≡ refusal k w → Course o
     followed-by : Passed d s → (z : ℕ) → z < length s → Front d s budget z → o ≡ refusal afterRoot z → Course o
     too-long : Passed d s → (t : List ℕ) (n : ℕ) → Means d s t n → n ≤ budget → (Roomy room t → ⊥) → o ≡ refusal noRoom 0 → Course o
@@ -47,12 +48,12 @@ module _ (d s : List ℕ) (budget room : ℕ) where
         let y = tree-sound d s budget z l t hb (p .in-table .least) (headed-fine s (p .headed)) e in
         let u = rootText d t in
         let m : Means d s u (rootCount d t) = record { tree = t; written = y .written; fitting = y .fitting; shallow = y .shallow; text = refl; tuples = refl } in
-        go u m (ltb room (length u)) (ltb 65535 (length u)) refl refl (omega (arith, y .spent))
+        go u m (ltb room (length u)) (ltb textMost (length u)) refl refl (omega (arith, y .spent))
       where
-        go : (u : List ℕ) → Means d s u (rootCount d t) → (a b : Bool) → ltb room (length u) ≡ a → ltb 65535 (length u) ≡ b → rootCount d t ≤ budget → Course (choose (a || b) (λ _. refusal noRoom 0) (λ _. result u (rootCount d t)))
+        go : (u : List ℕ) → Means d s u (rootCount d t) → (a b : Bool) → ltb room (length u) ≡ a → ltb textMost (length u) ≡ b → rootCount d t ≤ budget → Course (choose (a || b) (λ _. refusal noRoom 0) (λ _. result u (rootCount d t)))
         go u m true b e f h = too-long p u (rootCount d t) m h (λ r. omega (arith, r .small, ltb-true room (length u) e)) refl
-        go u m false true e f h = too-long p u (rootCount d t) m h (λ r. omega (arith, r .few, ltb-true 65535 (length u) f)) refl
-        go u m false false e f h = right p u (rootCount d t) m h (record { small = ltb-false room (length u) e; few = ltb-false 65535 (length u) f }) refl
+        go u m false true e f h = too-long p u (rootCount d t) m h (λ r. omega (arith, r .few, ltb-true textMost (length u) f)) refl
+        go u m false false e f h = right p u (rootCount d t) m h (record { small = ltb-false room (length u) e; few = ltb-false textMost (length u) f }) refl
 
     tree-course : Passed d s → Course (spoken d room (treeOf d s budget))
     unfolding treeOf Placed
@@ -76,17 +77,17 @@ module _ (d s : List ℕ) (budget room : ℕ) where
     unfolding reads
     course = first (accepts d) refl
       where
-        third : accepts d ≡ true → InTable s → (b : Bool) → headerFine s ≡ b → Course (choose (not b) (λ _. refusal headerDiffers 0) (λ _. spoken d room (treeOf d s budget)))
+        third : accepts d ≡ true → InTable s → (b : Bool) → headerAgrees s ≡ b → Course (choose (not b) (λ _. refusal headerDiffers 0) (λ _. spoken d room (treeOf d s budget)))
         third a h true e = tree-course (record { accepting = a; in-table = h; headed = fine-headed s (h .least) e })
-        third a h false e = unheaded a h (λ g. so-not (headerFine s) e (headed-fine s g)) refl
+        third a h false e = unheaded a h (λ g. so-not (headerAgrees s) e (headed-fine s g)) refl
 
-        second : accepts d ≡ true → (a b : Bool) → ltb (length s) 7 ≡ a → ltb 16384 (length s) ≡ b → Course (choose (a || b) (λ _. refusal lengthWrong 0) λ _. choose (not (headerFine s)) (λ _. refusal headerDiffers 0) λ _. spoken d room (treeOf d s budget))
-        second h true b e f = unsized h (λ g. omega (arith, g .least, ltb-true (length s) 7 e)) refl
-        second h false true e f = unsized h (λ g. omega (arith, g .most, ltb-true 16384 (length s) f)) refl
-        second h false false e f = third h (record { least = ltb-false (length s) 7 e; most = ltb-false 16384 (length s) f }) (headerFine s) refl
+        second : accepts d ≡ true → (a b : Bool) → ltb (length s) payloadLeast ≡ a → ltb payloadMost (length s) ≡ b → Course (choose (a || b) (λ _. refusal lengthWrong 0) λ _. choose (not (headerAgrees s)) (λ _. refusal headerDiffers 0) λ _. spoken d room (treeOf d s budget))
+        second h true b e f = unsized h (λ g. omega (arith, g .least, ltb-true (length s) payloadLeast e)) refl
+        second h false true e f = unsized h (λ g. omega (arith, g .most, ltb-true payloadMost (length s) f)) refl
+        second h false false e f = third h (record { least = ltb-false (length s) payloadLeast e; most = ltb-false payloadMost (length s) f }) (headerAgrees s) refl
 
-        first : (b : Bool) → accepts d ≡ b → Course (choose (not b) (λ _. refusal dictionaryWrong 0) λ _. choose (ltb (length s) payloadLeast || ltb payloadMost (length s)) (λ _. refusal lengthWrong 0) λ _. choose (not (headerFine s)) (λ _. refusal headerDiffers 0) λ _. spoken d room (treeOf d s budget))
-        first true e = second e (ltb (length s) 7) (ltb 16384 (length s)) refl refl
+        first : (b : Bool) → accepts d ≡ b → Course (choose (not b) (λ _. refusal dictionaryWrong 0) λ _. choose (ltb (length s) payloadLeast || ltb payloadMost (length s)) (λ _. refusal lengthWrong 0) λ _. choose (not (headerAgrees s)) (λ _. refusal headerDiffers 0) λ _. spoken d room (treeOf d s budget))
+        first true e = second e (ltb (length s) payloadLeast) (ltb payloadMost (length s)) refl refl
         first false e = unaccepted e refl
 
 -- bytes that follow a payload are refused
@@ -102,18 +103,18 @@ fault-refused : (d s : List ℕ) (budget k w : ℕ) → Bytes s → Somewhere d 
 unfolding treeOf
 fault-refused d s budget k w hb x = rw (root-first d s budget hb k w .1 x)
 
-outside : (s : List ℕ) → (InTable s → ⊥) → ltb (length s) 7 || ltb 16384 (length s) ≡ true
-outside s h = true-so _ λ e. h (record { least = ltb-false (length s) 7 (or-left _ _ e); most = ltb-false 16384 (length s) (or-right (ltb (length s) 7) _ e) })
+outside : (s : List ℕ) → (InTable s → ⊥) → ltb (length s) payloadLeast || ltb payloadMost (length s) ≡ true
+outside s h = true-so _ λ e. h (record { least = ltb-false (length s) payloadLeast (or-left _ _ e); most = ltb-false payloadMost (length s) (or-right (ltb (length s) payloadLeast) _ e) })
 
-overfull : (room : ℕ) (t : List ℕ) → (Roomy room t → ⊥) → ltb room (length t) || ltb 65535 (length t) ≡ true
-overfull room t r = true-so _ λ e. r (record { small = ltb-false room (length t) (or-left _ _ e); few = ltb-false 65535 (length t) (or-right (ltb room (length t)) _ e) })
+overfull : (room : ℕ) (t : List ℕ) → (Roomy room t → ⊥) → ltb room (length t) || ltb textMost (length t) ≡ true
+overfull room t r = true-so _ λ e. r (record { small = ltb-false room (length t) (or-left _ _ e); few = ltb-false textMost (length t) (or-right (ltb room (length t)) _ e) })
 
 -- no answer has another course
 answered : (d s : List ℕ) (budget room : ℕ) → Bytes s → (o : Outcome) → Course d s budget room o → reads d s budget room ≡ o
 unfolding reads
 answered d s budget room hb o (unaccepted a f) = rw (a, f)
 answered d s budget room hb o (unsized a h f) = rw (a, outside s h, f)
-answered d s budget room hb o (unheaded a h g f) = rw (a, le-ltb (length s) 7 (h .least), le-ltb 16384 (length s) (h .most), not-so (headerFine s) (λ e. g (fine-headed s (h .least) e)), f)
+answered d s budget room hb o (unheaded a h g f) = rw (a, le-ltb (length s) payloadLeast (h .least), le-ltb payloadMost (length s) (h .most), not-so (headerAgrees s) (λ e. g (fine-headed s (h .least) e)), f)
 answered d s budget room hb o (faulty p k w l x f) = reads-on d s budget room p ∙ ap (spoken d room) (fault-refused d s budget k w hb x) ∙ sym f
 answered d s budget room hb o (followed-by p z h x f) = reads-on d s budget room p ∙ ap (spoken d room) (front-refused d s budget z x h) ∙ sym f
 answered d s budget room hb o (too-long p t n m b r f) =
@@ -134,44 +135,67 @@ clash e f = cc
 same-place : {o : Outcome} {k w k' w' : ℕ} → o ≡ refusal k w → o ≡ refusal k' w' → w ≡ w'
 same-place e f = cc
 
+-- a tuple's fault and the line of the table that it is
 module _ (d s : List ℕ) (budget room : ℕ) where
-  -- which numbers a fault can have
-  late-line : (k w lo hi : ℕ) → Late lo hi k w → Passed d s → Somewhere d s budget (Fails d s k) w → Line d s budget room k w
-  unfolding Line
-  late-line k w lo hi l p x =
-      rw (ne-eqb k 1 (λ e. omega (arith, l .least)), ne-eqb k 2 (λ e. omega (arith, l .least)), ne-eqb k 3 (λ e. omega (arith, l .least)), ne-eqb k 13 (λ e. omega (arith, l .most)), ne-eqb k 14 (λ e. omega (arith, l .most))) (p, x)
+  likewise : {P Q : Spot → Type 0} {w : ℕ} → ((x : Spot) → P x → Q x) → Somewhere d s budget P w → Somewhere d s budget Q w
+  likewise f y = record { spot = y .spot; reached = y .reached; fails = f (y .spot) (y .fails); place = y .place }
+
+  at-spot : {P : Spot → Type 0} {w : ℕ} (y : Somewhere d s budget P w) (Q : Spot → Type 0) → Q (y .spot) → Somewhere d s budget Q w
+  at-spot y Q h = record { spot = y .spot; reached = y .reached; fails = h; place = y .place }
+
+  late-line : (k w : ℕ) → Passed d s → Somewhere d s budget (Fails d s k) w → Line d s budget room k w
+  late-line k w p y = go (y .fails)
+    where
+      go : Fails d s k (y .spot) → Line d s budget room k w
+      go (fails-4 e h) = line-4 e p (at-spot y (PastEnd s) h)
+      go (fails-5 e h) = line-5 e p (at-spot y (WidthWrong s) h)
+      go (fails-6 e h) = line-6 e p (at-spot y (NotKnown s) h)
+      go (fails-7 e h) = line-7 e p (at-spot y (GivenTwice s) h)
+      go (fails-8 e h) = line-8 e p (at-spot y (NotInBase s) h)
+      go (fails-9 e h) = line-9 e p (at-spot y (Misfit s) h)
+      go (fails-10 e h) = line-10 e p (at-spot y (ValueWrong d s) h)
+      go (fails-11 e h) = line-11 e p (at-spot y (TooDeep s) h)
+      go (fails-12 e h) = line-12 e p (at-spot y BudgetSpent h)
 
   course-line : (o : Outcome) (k w : ℕ) → o ≡ refusal k w → Course d s budget room o → Line d s budget room k w
-  unfolding Line
   course-line o k w e c = go c
     where
       moved : (a u : ℕ) → o ≡ refusal a u → Line d s budget room a u → Line d s budget room k w
       moved a u f x = rw (clash f e, same-place f e) at x
 
       go : Course d s budget room o → Line d s budget room k w
-      go (unaccepted a f) = moved 1 0 f (a, refl)
-      go (unsized a h f) = moved 2 0 f (a, h, refl)
-      go (unheaded a h g f) = moved 3 0 f (a, h, g, refl)
-      go (faulty p j v l x f) = moved j v f (late-line j v 7 (length s) l p x)
-      go (followed-by p z h x f) = moved 13 z f (p, h, x)
-      go (too-long p t n m b r f) = moved 14 0 f (p, record { text = t; tuples = n; means = m; enough = b; too-long = r }, refl)
+      go (unaccepted a f) = moved dictionaryWrong 0 f (line-1 refl refl a)
+      go (unsized a h f) = moved lengthWrong 0 f (line-2 refl refl a h)
+      go (unheaded a h g f) = moved headerDiffers 0 f (line-3 refl refl a h g)
+      go (faulty p j v l x f) = moved j v f (late-line j v p x)
+      go (followed-by p z h x f) = moved afterRoot z f (line-13 refl p h x)
+      go (too-long p t n m b r f) = moved noRoom 0 f (line-14 refl refl p (record { text = t; tuples = n; means = m; enough = b; too-long = r }))
       go (right p t n m b r f) = no-result (sym e ∙ f)
 
   line-course : (k w : ℕ) → Line d s budget room k w → Bytes s → Course d s budget room (refusal k w)
-  unfolding Line
-  line-course k w x hb =
-      step k 1 _ _ x (λ e h. unaccepted (h .0) (at e (h .1))) λ x.
-      step k 2 _ _ x (λ e h. unsized (h .0) (h .1) (at e (h .2))) λ x.
-      step k 3 _ _ x (λ e h. unheaded (h .0) (h .1) (h .2) (at e (h .3))) λ x.
-      step k 13 _ _ x (λ e h. followed-by (h .0) w (h .1) (h .2) (at e refl)) λ x.
-      step k 14 _ _ x (λ e h. too-long (h .0) (h .1 .text) (h .1 .tuples) (h .1 .means) (h .1 .enough) (h .1 .too-long) (at e (h .2))) λ x.
-      faulty (x .0) k w (late (x .0) (x .1)) (x .1) refl
+  line-course k w x hb = go x
     where
       at : {j v : ℕ} → k ≡ j → w ≡ v → refusal k w ≡ refusal j v
       at e f = rw (e, f)
 
-      late : Passed d s → Somewhere d s budget (Fails d s k) w → Late payloadLeast (length s) k w
-      late p x = placed-refused 7 (length s) k w (rootAt d s budget) (root-placed d s budget (p .in-table .least)) (root-first d s budget hb k w .1 x)
+      late : Passed d s → Somewhere d s budget (Fails d s k) w → Course d s budget room (refusal k w)
+      late p y = faulty p k w (placed-refused payloadLeast (length s) k w (rootAt d s budget) (root-placed d s budget (p .in-table .least)) (root-first d s budget hb k w .1 y)) y refl
+
+      go : Line d s budget room k w → Course d s budget room (refusal k w)
+      go (line-1 e f a) = unaccepted a (at e f)
+      go (line-2 e f a h) = unsized a h (at e f)
+      go (line-3 e f a h g) = unheaded a h g (at e f)
+      go (line-4 e p y) = late p (likewise (λ x h. fails-4 e h) y)
+      go (line-5 e p y) = late p (likewise (λ x h. fails-5 e h) y)
+      go (line-6 e p y) = late p (likewise (λ x h. fails-6 e h) y)
+      go (line-7 e p y) = late p (likewise (λ x h. fails-7 e h) y)
+      go (line-8 e p y) = late p (likewise (λ x h. fails-8 e h) y)
+      go (line-9 e p y) = late p (likewise (λ x h. fails-9 e h) y)
+      go (line-10 e p y) = late p (likewise (λ x h. fails-10 e h) y)
+      go (line-11 e p y) = late p (likewise (λ x h. fails-11 e h) y)
+      go (line-12 e p y) = late p (likewise (λ x h. fails-12 e h) y)
+      go (line-13 e p h y) = followed-by p w h y (at e refl)
+      go (line-14 e f p y) = too-long p (y .text) (y .tuples) (y .means) (y .enough) (y .too-long) (at e f)
 
   pub given : Bytes s → (k w : ℕ) → (reads d s budget room ≡ refusal k w) ↔ Line d s budget room k w
   given hb k w = (λ e. course-line (reads d s budget room) k w e (course d s budget room hb), λ x. answered d s budget room hb (refusal k w) (line-course k w x hb))
@@ -180,7 +204,7 @@ module _ (d s : List ℕ) (budget room : ℕ) where
   one-line hb k w k' w' x y = let e = given hb k w .1 x in let f = given hb k' w' .1 y in (clash e f, same-place e f)
 
   -- where a tuple's faults stand
-  pub given-place : Bytes s → (k w : ℕ) → 4 ≤ k → k ≤ 12 → reads d s budget room ≡ refusal k w → (payloadLeast ≤ w) × (w ≤ length s)
+  pub given-place : Bytes s → (k w : ℕ) → pastEnd ≤ k → k ≤ budgetSpent → reads d s budget room ≡ refusal k w → (payloadLeast ≤ w) × (w ≤ length s)
   given-place hb k w low high e = go (reads d s budget room) (course d s budget room hb) e
     where
       go : (o : Outcome) → Course d s budget room o → o ≡ refusal k w → (payloadLeast ≤ w) × (w ≤ length s)
@@ -191,61 +215,3 @@ module _ (d s : List ℕ) (budget room : ℕ) where
       go o (followed-by p z h x f) e = absurd (omega (arith, clash e f))
       go o (too-long p t n m b r f) e = absurd (omega (arith, clash e f))
       go o (right p t n m b r f) e = no-result (sym e ∙ f)
-
-  -- the table, a line each
-  module _ (hb : Bytes s) (w : ℕ) where
-    pub given-1 : (reads d s budget room ≡ refusal dictionaryWrong w) ↔ ((accepts d ≡ false) × (w ≡ 0))
-    unfolding Line
-    given-1 = given hb dictionaryWrong w
-
-    pub given-2 : (reads d s budget room ≡ refusal lengthWrong w) ↔ ((accepts d ≡ true) × (InTable s → ⊥) × (w ≡ 0))
-    unfolding Line
-    given-2 = given hb lengthWrong w
-
-    pub given-3 : (reads d s budget room ≡ refusal headerDiffers w) ↔ ((accepts d ≡ true) × InTable s × (Headed s → ⊥) × (w ≡ 0))
-    unfolding Line
-    given-3 = given hb headerDiffers w
-
-    pub given-4 : (reads d s budget room ≡ refusal pastEnd w) ↔ (Passed d s × Somewhere d s budget (PastEnd s) w)
-    unfolding Line Fails
-    given-4 = given hb pastEnd w
-
-    pub given-5 : (reads d s budget room ≡ refusal widthWrong w) ↔ (Passed d s × Somewhere d s budget (WidthWrong s) w)
-    unfolding Line Fails
-    given-5 = given hb widthWrong w
-
-    pub given-6 : (reads d s budget room ≡ refusal notKnown w) ↔ (Passed d s × Somewhere d s budget (NotKnown s) w)
-    unfolding Line Fails
-    given-6 = given hb notKnown w
-
-    pub given-7 : (reads d s budget room ≡ refusal givenTwice w) ↔ (Passed d s × Somewhere d s budget (GivenTwice s) w)
-    unfolding Line Fails
-    given-7 = given hb givenTwice w
-
-    pub given-8 : (reads d s budget room ≡ refusal notInBase w) ↔ (Passed d s × Somewhere d s budget (NotInBase s) w)
-    unfolding Line Fails
-    given-8 = given hb notInBase w
-
-    pub given-9 : (reads d s budget room ≡ refusal misfit w) ↔ (Passed d s × Somewhere d s budget (Misfit s) w)
-    unfolding Line Fails
-    given-9 = given hb misfit w
-
-    pub given-10 : (reads d s budget room ≡ refusal valueWrong w) ↔ (Passed d s × Somewhere d s budget (ValueWrong d s) w)
-    unfolding Line Fails
-    given-10 = given hb valueWrong w
-
-    pub given-11 : (reads d s budget room ≡ refusal tooDeep w) ↔ (Passed d s × Somewhere d s budget (TooDeep s) w)
-    unfolding Line Fails
-    given-11 = given hb tooDeep w
-
-    pub given-12 : (reads d s budget room ≡ refusal budgetSpent w) ↔ (Passed d s × Somewhere d s budget BudgetSpent w)
-    unfolding Line Fails
-    given-12 = given hb budgetSpent w
-
-    pub given-13 : (reads d s budget room ≡ refusal afterRoot w) ↔ (Passed d s × (w < length s) × Front d s budget w)
-    unfolding Line
-    given-13 = given hb afterRoot w
-
-    pub given-14 : (reads d s budget room ≡ refusal noRoom w) ↔ (Passed d s × Overlong d s budget room × (w ≡ 0))
-    unfolding Line
-    given-14 = given hb noRoom w

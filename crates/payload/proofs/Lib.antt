@@ -1,6 +1,9 @@
 -- The laws that tie the answers to the meaning.
+pub mod Answers
 pub mod Sitting
+pub mod Leaves
 pub mod Lying
+pub mod Parts
 pub mod Scalars
 pub mod Unique
 pub mod Written
@@ -16,5 +19,7 @@ pub mod Faults
 pub mod Refused
 pub mod First
 pub mod Given
+pub mod Saying
+pub mod Meant
 pub mod Longest
 pub mod Steps

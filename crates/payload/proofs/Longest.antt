@@ -10,7 +10,7 @@ use mathlib.Core.Bool.{Bool, true, false}
 use Prim.Native.Nat.{ℕ, zero, suc, _+_, _-_, _*_, _≤_}
 use native.Mathlib.Omega.{arith}
 use lib.ListN.{length, take, length-append, length-take, length-drop}
-use Rattle.terms.specs.Checks.{choose}
+use Rattle.paper.specs.Checks.{choose}
 use Rattle.numbers.specs.declared.Integer.{Integer}
 use Rattle.numbers.specs.declared.Integer.the-variants.{Plus, Minus}
 use Rattle.numbers.specs.Bytes.{Bytes}
@@ -19,7 +19,9 @@ use Rattle.numbers.proofs.Places.{bytes-at}
 use Rattle.numbers.proofs.Decimals.{decimal-few}
 use Rattle.dictionary.specs.Rows.{nameLength, nameOffset, name, rowAt}
 use Rattle.dictionary.specs.Children.{childNumbered}
-use Rattle.payload.specs.Tree.{Scalar, null, integer, option, string, boolean, Shape, aSet, Tuples, none, scalar, inner, count}
+use Rattle.payload.specs.Tree.{Scalar, null, integer, option, string, boolean, Tuples, none, scalar, inner, count}
+use Rattle.payload.specs.declared.Shape.{Shape}
+use Rattle.payload.specs.declared.Shape.the-variants.{Set}
 use Rattle.payload.specs.Writes.{Cut, Tuple, Holds, Writes, Payload}
 use Rattle.payload.specs.Fits.{isSet, child, rowOf}
 use Rattle.payload.specs.Text.{quoted, colon, opens, closes, word, label, commaAt, textOf, rootText}
@@ -122,4 +124,4 @@ module _ (d : List ℕ) (hb : Bytes d) where
   pub root-long : (t : Tuples) (b : List ℕ) → Payload t b → length (rootText d t) ≤ 104 * length b
   root-long t b y =
       let c = y .root .rest .rest .here in
-      omega (arith, text-long t (c .back) 0 0 (c .rest), bracketed aSet (textOf d t 0 0), tuple-size 0 _ (y .body) (y .root), cut-size _ c, ap length (y .whole))
+      omega (arith, text-long t (c .back) 0 0 (c .rest), bracketed Set (textOf d t 0 0), tuple-size 0 _ (y .body) (y .root), cut-size _ c, ap length (y .whole))

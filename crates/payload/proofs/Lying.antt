@@ -11,7 +11,7 @@ use Prim.Native.Nat.{ℕ, suc, _+_, _-_, _<_, _≤_}
 use native.Mathlib.Omega.{arith}
 use lib.ListN.{length, drop, length-append, length-drop}
 use lib.Seq.{slice, drop-drop, drop-append-seam, drop-cons, length-slice}
-use Rattle.terms.specs.Checks.{Judged}
+use Rattle.paper.specs.Checks.{Judged}
 use Rattle.numbers.specs.declared.Found.{Found}
 use Rattle.numbers.specs.declared.Found.the-variants.{Value}
 use Rattle.numbers.specs.Bytes.{Bytes, byte}

@@ -12,15 +12,17 @@ use lib.ListN.{length, take}
 use lib.Seq.{slice}
 use lib.Dec.{ltb, leb, eqb}
 use borrow.Author.Tests.{ltb-false}
-use Rattle.terms.specs.Limits.{payloadLeast}
-use Rattle.terms.specs.Checks.{choose, Judged, refused, good, refuse, need, after}
+use Rattle.dictionary.specs.Formats.{nullForm, integerForm, enumForm, stringForm}
+use Rattle.paper.specs.Refusals.{pastEnd, widthWrong, notKnown, givenTwice, notInBase, misfit, valueWrong, tooDeep, budgetSpent}
+use Rattle.paper.specs.Limits.{payloadLeast, depthMost, integerLeast, integerMost, numberLeast, numberMost}
+use Rattle.paper.specs.Checks.{choose, Judged, refused, good, refuse, need, after}
 use Rattle.numbers.specs.declared.Found.{Found}
-use Rattle.numbers.specs.declared.Found.the-variants.{Fault, Value}
+use Rattle.numbers.specs.declared.Found.the-variants.{Refused, Value}
 use Rattle.numbers.specs.Bytes.{byte}
 use Rattle.numbers.specs.Number.{numberAt}
 use Rattle.numbers.proofs.Numbers.{stands}
 use Rattle.dictionary.specs.Children.{childNumbered}
-use Rattle.payload.specs.Tree.{Scalar, option, Tuples}
+use Rattle.payload.specs.Tree.{Scalar, option, Tuples, booleanByte}
 use Rattle.payload.specs.Strings.{wellSpelt}
 use Rattle.payload.specs.Fits.{child, found}
 use Rattle.payload.specs.Values.{Valued, wrong, worth, when, integerValue, booleanValue, stringValue, optionIn, optionValue, scalarValue}
@@ -28,8 +30,8 @@ use Rattle.payload.specs.Reading.{asked, Single, numberFor, number, valu
 use Rattle.payload.proofs.Asked.{tuple-asked, root-asked}
 
 pub record Late (lo hi k w : ℕ) : Type 0 where
-  pub least : 4 ≤ k
-  pub most : k ≤ 12
+  pub least : pastEnd ≤ k
+  pub most : k ≤ budgetSpent
   pub low : lo ≤ w
   pub high : w ≤ hi
 
@@ -43,14 +45,14 @@ placed-refused lo hi k w r h e = rw e at h
 
 -- the faults of a number
 unfoldable Numeric : Found → Type 0
-Numeric (Fault k) = (4 ≤ k) × (k ≤ 5)
+Numeric (Refused k) = (pastEnd ≤ k) × (k ≤ widthWrong)
 Numeric (Value n w) = Unit {0}
 
 numeric-value : (n w : ℕ) → Numeric (Value n w)
 unfolding Numeric
 numeric-value n w = tt
 
-numeric-choose : (b : Bool) (k : ℕ) (f : Unit {0} → Found) → 4 ≤ k → k ≤ 5 → Numeric (f tt) → Numeric (choose b (λ _. Fault k) f)
+numeric-choose : (b : Bool) (k : ℕ) (f : Unit {0} → Found) → pastEnd ≤ k → k ≤ widthWrong → Numeric (f tt) → Numeric (choose b (λ _. Refused k) f)
 unfolding Numeric
 numeric-choose true k f h g r = (h, g)
 numeric-choose false k f h g r = r
@@ -58,14 +60,14 @@ numeric-choose false k f h g r = r
 numeric : (s : List ℕ) (p e : ℕ) → Numeric (numberAt s p e)
 unfolding numberAt
 numeric s p e =
-    numeric-choose (leb e p) 4 _ (omega arith) (omega arith)
-    (numeric-choose (ltb (byte s p) 1) 5 _ (omega arith) (omega arith)
-    (numeric-choose (ltb 4 (byte s p)) 5 _ (omega arith) (omega arith)
-    (numeric-choose (ltb (e - (p + 1)) (byte s p)) 4 _ (omega arith) (omega arith) (numeric-value _ _))))
+    numeric-choose (leb e p) pastEnd _ (omega arith) (omega arith)
+    (numeric-choose (ltb (byte s p) numberLeast) widthWrong _ (omega arith) (omega arith)
+    (numeric-choose (ltb numberMost (byte s p)) widthWrong _ (omega arith) (omega arith)
+    (numeric-choose (ltb (e - (p + 1)) (byte s p)) pastEnd _ (omega arith) (omega arith) (numeric-value _ _))))
 
 -- those of a scalar
 unfoldable Scalary : Valued → Type 0
-Scalary (wrong k) = (4 ≤ k) × (k ≤ 12)
+Scalary (wrong k) = (pastEnd ≤ k) × (k ≤ budgetSpent)
 Scalary (worth x) = Unit {0}
 
 scalary-worth : (x : Scalar) → Scalary (worth x)
@@ -84,17 +86,17 @@ scalary-choose false f g x y = y
 
 scalary-option : (d : List ℕ) (row : ℕ) (v : List ℕ) (r : Found) → Numeric r → Scalary (optionIn d row v r)
 unfolding Scalary Numeric
-scalary-option d row v (Fault k) h = (h .0, omega (arith, h .1))
+scalary-option d row v (Refused k) h = (h .0, omega (arith, h .1))
 scalary-option d row v (Value n w) h = scalary-when (eqb (1 + w) (length v) && found (childNumbered d row n)) (option n)
 
 scalary : (d : List ℕ) (row f : ℕ) (v : List ℕ) → Scalary (scalarValue d row f v)
 unfolding scalarValue integerValue optionValue stringValue booleanValue
 scalary d row f v =
-    scalary-choose (eqb f 2) _ _ (scalary-when (eqb (length v) 0) _)
-    (scalary-choose (eqb f 3) _ _ (scalary-when (leb 1 (length v) && leb (length v) 8) _)
-    (scalary-choose (eqb f 4) _ _ (scalary-option d row v (numberAt v 0 (length v)) (numeric v 0 (length v)))
-    (scalary-choose (eqb f 5) _ _ (scalary-when (leb 1 (length v) && eqb (byte v (length v - 1)) 0 && wellSpelt (take (length v - 1) v)) _)
-    (scalary-choose (eqb (length v) 1 && eqb (byte v 0) 0) _ _ (scalary-worth _) (scalary-when (eqb (length v) 1 && eqb (byte v 0) 255) _)))))
+    scalary-choose (eqb f nullForm) _ _ (scalary-when (eqb (length v) 0) _)
+    (scalary-choose (eqb f integerForm) _ _ (scalary-when (leb integerLeast (length v) && leb (length v) integerMost) _)
+    (scalary-choose (eqb f enumForm) _ _ (scalary-option d row v (numberAt v 0 (length v)) (numeric v 0 (length v)))
+    (scalary-choose (eqb f stringForm) _ _ (scalary-when (leb 1 (length v) && eqb (byte v (length v - 1)) 0 && wellSpelt (take (length v - 1) v)) _)
+    (scalary-choose (eqb (length v) 1 && eqb (byte v 0) (booleanByte false)) _ _ (scalary-worth _) (scalary-when (eqb (length v) 1 && eqb (byte v 0) (booleanByte true)) _)))))
 
 -- each combinator keeps it
 module _ {A : Type 0} (lo hi : ℕ) where
@@ -123,7 +125,7 @@ module _ {A : Type 0} (lo hi : ℕ) where
   number-placed s at p e f a b g = go (numberAt s p e) refl (numeric s p e)
     where
       go : (r : Found) → numberAt s p e ≡ r → Numeric r → Placed lo hi (number r at p f)
-      go (Fault k) x h = record { least = h .0; most = omega (arith, h .1); low = a; high = b }
+      go (Refused k) x h = record { least = h .0; most = omega (arith, h .1); low = a; high = b }
       go (Value n w) x h = let t = stands s p e n w x in g n (p + 1 + w) (omega arith) (t .within)
 
   value-placed : (r : Valued) (at : ℕ) (f : Scalar → Judged A) → Scalary r → lo ≤ at → at ≤ hi → ((x : Scalar) → Placed lo hi (f x)) → Placed lo hi (value r at f)
@@ -149,17 +151,17 @@ Insides inside = (r at p q l : ℕ) → at ≤ p → p ≤ q → Placed at q (in
 asked-placed : {A : Type 0} (s : List ℕ) (knows news : ℕ → Bool) (suits : ℕ → ℕ → Bool) (body : ℕ → ℕ → ℕ → ℕ → Judged A) (at e l : ℕ) → at ≤ e → ((n f q z : ℕ) → at ≤ q → q ≤ z → z ≤ e → Placed at e (body n f q z)) → Placed at e (asked s knows news suits body at e l)
 unfolding asked
 asked-placed s knows news suits body at e l h H =
-    let own : (k : ℕ) → 4 ≤ k → k ≤ 12 → Late at e k at = λ k a b. record { least = a; most = b; low = omega arith; high = h } in
-    refuse-placed at e 12 at (own 12 (omega arith) (omega arith)) (eqb l 0) _ λ _.
+    let own : (k : ℕ) → pastEnd ≤ k → k ≤ budgetSpent → Late at e k at = λ k a b. record { least = a; most = b; low = omega arith; high = h } in
+    refuse-placed at e budgetSpent at (own budgetSpent (omega arith) (omega arith)) (eqb l 0) _ λ _.
     number-placed at e s at at e _ (omega arith) h λ S p lt le.
-    need-placed at e 8 at (own 8 (omega arith) (omega arith)) (eqb (S % 2) 0) _
-    (need-placed at e 6 at (own 6 (omega arith) (omega arith)) (knows (S / 2)) _
-    (need-placed at e 7 at (own 7 (omega arith) (omega arith)) (news (S / 2)) _
-    (refuse-placed at e 4 at (own 4 (omega arith) (omega arith)) (leb e p) _ λ _.
-    need-placed at e 8 at (own 8 (omega arith) (omega arith)) (supported (byte s p)) _
-    (need-placed at e 9 at (own 9 (omega arith) (omega arith)) (suits (S / 2) (byte s p / 16)) _
+    need-placed at e notInBase at (own notInBase (omega arith) (omega arith)) (eqb (S % 2) 0) _
+    (need-placed at e notKnown at (own notKnown (omega arith) (omega arith)) (knows (S / 2)) _
+    (need-placed at e givenTwice at (own givenTwice (omega arith) (omega arith)) (news (S / 2)) _
+    (refuse-placed at e pastEnd at (own pastEnd (omega arith) (omega arith)) (leb e p) _ λ _.
+    need-placed at e notInBase at (own notInBase (omega arith) (omega arith)) (supported (byte s p)) _
+    (need-placed at e misfit at (own misfit (omega arith) (omega arith)) (suits (S / 2) (byte s p / 16)) _
     (number-placed at e s at (p + 1) e _ (omega arith) h λ len q lt' le'.
-    refuse-placed at e 4 at (own 4 (omega arith) (omega arith)) (ltb (e - q) len) _ λ room.
+    refuse-placed at e pastEnd at (own pastEnd (omega arith) (omega arith)) (ltb (e - q) len) _ λ room.
     H (S / 2) (byte s p / 16) q (q + len) (omega arith) (omega arith) (omega (arith, ltb-false (e - q) len room)))))))
 
 module _ (d s : List ℕ) where
@@ -183,16 +185,16 @@ module _ (d s : List ℕ) where
 
   pub inside-placed : (room : ℕ) → Insides (insideOf d s room)
   unfolding insideOf Insides
-  inside-placed zero r at p q l h g = refuse-placed at q 11 at (record { least = omega arith; most = omega arith; low = omega arith; high = omega arith }) true (λ _. refused 11 at) λ e. absurd (true≢false e)
+  inside-placed zero r at p q l h g = refuse-placed at q tooDeep at (record { least = omega arith; most = omega arith; low = omega arith; high = omega arith }) true (λ _. refused tooDeep at) λ e. absurd (true≢false e)
   inside-placed (suc room) r at p q l h g =
       number-placed at q s at p q _ (omega arith) (omega arith) λ n first a b.
       let kids = run d s (tupleAt d s (insideOf d s room)) r n 0 [] first q l in
       after-placed at q kids _ (wider first q at q kids (omega arith) (omega arith) (run-placed (tupleAt d s (insideOf d s room)) r q (λ i seen p l e. tuple-placed (insideOf d s room) (inside-placed room) r i seen p q l e) n 0 [] first l b)) λ z m t c f.
-      need-placed at q 10 at (record { least = omega arith; most = omega arith; low = omega arith; high = omega arith }) (eqb z q) _ (good-placed at q q m _ (omega arith) (omega arith))
+      need-placed at q valueWrong at (record { least = omega arith; most = omega arith; low = omega arith; high = omega arith }) (eqb z q) _ (good-placed at q q m _ (omega arith) (omega arith))
 
   pub root-placed : (budget : ℕ) → payloadLeast ≤ length s → Placed payloadLeast (length s) (rootAt d s budget)
   unfolding Insides
   root-placed budget h =
       rw (root-asked d s budget)
-      (asked-placed s _ _ _ _ 7 (length s) budget h λ n f q z a b c.
-      wider 7 z 7 (length s) (insideOf d s 16 0 7 q z (budget - 1)) (omega arith) c (inside-placed 16 0 7 q z (budget - 1) a b))
+      (asked-placed s _ _ _ _ payloadLeast (length s) budget h λ n f q z a b c.
+      wider payloadLeast z payloadLeast (length s) (insideOf d s depthMost 0 payloadLeast q z (budget - 1)) (omega arith) c (inside-placed depthMost 0 payloadLeast q z (budget - 1) a b))

@@ -2,31 +2,32 @@
 -- Assumes nothing.
 --   base-of, order-of   what a tuple that is in order up to its value has
 --   nested-judged       it is refused where the value of its set or array is
---   step                a chain of choices by number, one after another
 --   fails-judged        it is refused where a line speaks of it
 use mathlib.Core.Path.{_≡_, refl, sym, ap, _∙_}
 use mathlib.Core.List.{List, []}
-use mathlib.Core.Bool.{Bool, true, false}
+use mathlib.Core.Bool.{false}
 use Prim.Native.Nat.{ℕ, suc, _+_, _-_, _*_, _%_, _≤_}
 use native.Mathlib.Omega.{arith}
 use lib.ListN.{length}
 use lib.Seq.{slice}
-use lib.Dec.{eqb}
-use borrow.Author.Tests.{ltb-false, eqb-true, lt-ltb, lt-leb, le-leb, eq-eqb, ne-eqb}
-use Rattle.terms.specs.Refusals.{pastEnd, widthWrong, notKnown, givenTwice, notInBase, misfit, valueWrong, tooDeep, budgetSpent}
-use Rattle.terms.specs.Checks.{choose, refused, good}
+use borrow.Author.Tests.{ltb-false, lt-ltb, lt-leb, le-leb, eq-eqb, ne-eqb}
+use Rattle.paper.specs.Refusals.{pastEnd, widthWrong, notKnown, givenTwice, notInBase, misfit, valueWrong, tooDeep, budgetSpent}
+use Rattle.paper.specs.Checks.{refused, good}
 use Rattle.numbers.specs.declared.Found.{Found}
-use Rattle.numbers.specs.declared.Found.the-variants.{Fault, Value}
+use Rattle.numbers.specs.declared.Found.the-variants.{Refused, Value}
 use Rattle.numbers.specs.Bytes.{Bytes, byte}
 use Rattle.numbers.specs.Number.{numberAt, NumberFault, number-past, width-off}
 use Rattle.numbers.proofs.Places.{bytes-slice}
-use Rattle.numbers.proofs.Numbers.{number-fault, part-fault}
+use Rattle.numbers.proofs.Numbers.{number-fault}
 use Rattle.dictionary.specs.Formats.{enumForm}
 use Rattle.payload.specs.Tree.{Tuples, count}
 use Rattle.payload.specs.Values.{wrong, scalarValue}
 use Rattle.payload.specs.Reading.{asked, isGroup, tupleAt, run, insideOf}
 use Rattle.payload.specs.Lying.{Read}
-use Rattle.payload.specs.Refusing.{Many, Spot, Measured, Nested, Due, its-S, its-L, its-count, its-option, PastEnd, number-passes, form-passes, value-passes, WidthWrong, width-wrong, NotKnown, not-known, GivenTwice, given-twice, NotInBase, annotated, unsupported, Misfit, misfitting, ValueWrong, wrong-scalar, left-over, TooDeep, too-deep, BudgetSpent, Fails}
+use Rattle.payload.specs.Reached.{Many, Spot, Measured, Nested, Due, its-S, its-L, its-count, its-option}
+use Rattle.payload.specs.Refusing.{PastEnd, number-passes, form-passes, value-passes, WidthWrong, width-wrong, NotKnown, not-known, GivenTwice, given-twice, NotInBase, annotated, unsupported, Misfit, misfitting, ValueWrong, wrong-scalar, left-over, TooDeep, too-deep, BudgetSpent}
+use Rattle.payload.proofs.Faults.{Fails, fails-4, fails-5, fails-6, fails-7, fails-8, fails-9, fails-10, fails-11, fails-12}
+use Rattle.payload.proofs.Parts.{part-number}
 use Rattle.payload.proofs.Lying.{number-lies, number-goes}
 use Rattle.payload.proofs.Scalars.{no-option, no-scalar, misvalued}
 use Rattle.payload.proofs.Asked.{Base, supported-is}
@@ -43,13 +44,6 @@ many-run d room s row n i seen p e l q m t y =
     ∙ ap (λ (k : ℕ). good q k t) c
 
 -- one line after another
-pub step : (k j : ℕ) {R : Type 0} (A : Type 0) (B : Unit {0} → Type 0) → choose (eqb k j) (λ _. A) B → (k ≡ j → A → R) → (B tt → R) → R
-step k j {R} A B x f g = go (eqb k j) refl x
-  where
-    go : (t : Bool) → eqb k j ≡ t → choose t (λ _. A) B → R
-    go true e x = f (eqb-true k j e) x
-    go false e x = g x
-
 module _ (s : List ℕ) (x : Spot) {n f q z : ℕ} (m : Measured s x n f q z) where
   pub base-of : Base f
   base-of = rw (m .format) at (supported-is (byte s (m .place)) (m .formed .supports) .1)
@@ -59,18 +53,18 @@ module _ (s : List ℕ) (x : Spot) {n f q z : ℕ} (m : Measured s x n f q z) wh
 
 -- an option's number, which fills a part of the payload
 module _ (s : List ℕ) (q z : ℕ) (order : q ≤ z) (h : z ≤ length s) where
-  pub part-there : (k : ℕ) → numberAt (slice q z s) 0 (length (slice q z s)) ≡ Fault k → numberAt s q z ≡ Fault k
-  part-there k e = number-fault s q z k .1 (part-fault s q z order h k .0 (number-fault (slice q z s) 0 (length (slice q z s)) k .0 e))
+  pub part-there : (k : ℕ) → numberAt (slice q z s) 0 (length (slice q z s)) ≡ Refused k → numberAt s q z ≡ Refused k
+  part-there k e = sym (part-number s q z order h) ∙ e
 
-  pub part-back : (k : ℕ) → numberAt s q z ≡ Fault k → numberAt (slice q z s) 0 (length (slice q z s)) ≡ Fault k
-  part-back k e = number-fault (slice q z s) 0 (length (slice q z s)) k .1 (part-fault s q z order h k .1 (number-fault s q z k .0 e))
+  pub part-back : (k : ℕ) → numberAt s q z ≡ Refused k → numberAt (slice q z s) 0 (length (slice q z s)) ≡ Refused k
+  part-back k e = part-number s q z order h ∙ e
 
   pub part-found : (m p : ℕ) → Read s q z m p → (n : ℕ) × (w : ℕ) × (numberAt (slice q z s) 0 (length (slice q z s)) ≡ Value n w)
   part-found m p r = go (numberAt (slice q z s) 0 (length (slice q z s))) refl
     where
       go : (f : Found) → numberAt (slice q z s) 0 (length (slice q z s)) ≡ f → (n : ℕ) × (w : ℕ) × (f ≡ Value n w)
       go (Value n w) e = (n, w, refl)
-      go (Fault k) e = absurd (let a = part-there k e in let b = number-lies s (r .bytes) q p z m (r .lies) (r .writes) (r .within) in let c : _≡_ {A = ℕ} 0 1 = cc in omega arith)
+      go (Refused k) e = absurd (let a = part-there k e in let b = number-lies s (r .bytes) q p z m (r .lies) (r .writes) (r .within) in let c : _≡_ {A = ℕ} 0 1 = cc in omega arith)
 
 module _ (d s : List ℕ) (x : Spot) where
   pub nested-judged : (row q z room k w : ℕ) → Nested s x row q z room → insideOf d s (suc room) row (x .start) q z (x .left - 1) ≡ refused k w → judgedAt d s x ≡ refused k w
@@ -80,17 +74,17 @@ module _ (d s : List ℕ) (x : Spot) where
   scalar-judged n f q z k m g h = asked-measured s x _ n f q z m ∙ rw (g, h)
 
   module _ (hb : Bytes s) (he : x .end ≤ length s) where
-    S-judged : (k : ℕ) → 1 ≤ x .left → numberAt s (x .start) (x .end) ≡ Fault k → judgedAt d s x ≡ refused k (x .start)
+    S-judged : (k : ℕ) → 1 ≤ x .left → numberAt s (x .start) (x .end) ≡ Refused k → judgedAt d s x ≡ refused k (x .start)
     unfolding asked
     S-judged k h f = rw (some-left x h, f)
 
-    count-judged : (k row p e room : ℕ) → Nested s x row p e room → numberAt s p e ≡ Fault k → judgedAt d s x ≡ refused k (x .start)
+    count-judged : (k row p e room : ℕ) → Nested s x row p e room → numberAt s p e ≡ Refused k → judgedAt d s x ≡ refused k (x .start)
     unfolding insideOf
     count-judged k row p e room n f = nested-judged row p e room k (x .start) n (rw f)
 
-    due-judged : (k p e : ℕ) → Due s x p e → numberAt s p e ≡ Fault k → judgedAt d s x ≡ refused k (x .start)
+    due-judged : (k p e : ℕ) → Due s x p e → numberAt s p e ≡ Refused k → judgedAt d s x ≡ refused k (x .start)
     due-judged k p e (its-S h i j) f = S-judged k h (rw (i, j) at f)
-    due-judged k p e (its-L n at m i j) f = let g : numberAt s (at + 1) (x .end) ≡ Fault k = rw (i, j) at f in asked-formed s x _ n at m ∙ rw g
+    due-judged k p e (its-L n at m i j) f = let g : numberAt s (at + 1) (x .end) ≡ Refused k = rw (i, j) at f in asked-formed s x _ n at m ∙ rw g
     due-judged k p e (its-count row room n) f = count-judged k row p e room n f
     due-judged k p e (its-option n m) f =
         scalar-judged n enumForm p e k m refl
@@ -145,19 +139,16 @@ module _ (d s : List ℕ) (x : Spot) where
     unfolding asked
     judged-12 e = rw (eq-eqb (x .left) 0 e)
 
+    is : {k j : ℕ} → k ≡ j → judgedAt d s x ≡ refused j (x .start) → judgedAt d s x ≡ refused k (x .start)
+    is e h = rw e h
+
     pub fails-judged : (k : ℕ) → Fails d s k x → judgedAt d s x ≡ refused k (x .start)
-    unfolding Fails
-    fails-judged k h =
-        step k pastEnd _ _ h (λ e h. is e (judged-4 h)) λ h.
-        step k widthWrong _ _ h (λ e h. is e (judged-5 h)) λ h.
-        step k notKnown _ _ h (λ e h. is e (judged-6 h)) λ h.
-        step k givenTwice _ _ h (λ e h. is e (judged-7 h)) λ h.
-        step k notInBase _ _ h (λ e h. is e (judged-8 h)) λ h.
-        step k misfit _ _ h (λ e h. is e (judged-9 h)) λ h.
-        step k valueWrong _ _ h (λ e h. is e (judged-10 h)) λ h.
-        step k tooDeep _ _ h (λ e h. is e (judged-11 h)) λ h.
-        step k budgetSpent _ _ h (λ e h. is e (judged-12 h)) λ h.
-        absurd h
-      where
-        is : {j : ℕ} → k ≡ j → judgedAt d s x ≡ refused j (x .start) → judgedAt d s x ≡ refused k (x .start)
-        is e h = rw e h
+    fails-judged k (fails-4 e h) = is e (judged-4 h)
+    fails-judged k (fails-5 e h) = is e (judged-5 h)
+    fails-judged k (fails-6 e h) = is e (judged-6 h)
+    fails-judged k (fails-7 e h) = is e (judged-7 h)
+    fails-judged k (fails-8 e h) = is e (judged-8 h)
+    fails-judged k (fails-9 e h) = is e (judged-9 h)
+    fails-judged k (fails-10 e h) = is e (judged-10 h)
+    fails-judged k (fails-11 e h) = is e (judged-11 h)
+    fails-judged k (fails-12 e h) = is e (judged-12 h)

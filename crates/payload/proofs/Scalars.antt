@@ -15,11 +15,12 @@ use lib.ListN.{length, take, drop, length-append}
 use lib.Seq.{slice, take-length, take-suc, take-append-seam, getD-append-seam}
 use lib.Dec.{leb, eqb}
 use borrow.Author.Tests.{leb-true, eqb-true, eqb-false, le-leb, eq-eqb}
-use Rattle.terms.specs.Refusals.{valueWrong}
-use Rattle.terms.specs.Checks.{choose}
-use Rattle.terms.proofs.Tests.{and-left, and-right}
+use Rattle.paper.specs.Limits.{integerLeast, integerMost}
+use Rattle.paper.specs.Refusals.{valueWrong}
+use Rattle.paper.specs.Checks.{choose}
+use Rattle.paper.proofs.Tests.{and-left, and-right}
 use Rattle.numbers.specs.declared.Found.{Found}
-use Rattle.numbers.specs.declared.Found.the-variants.{Fault, Value}
+use Rattle.numbers.specs.declared.Found.the-variants.{Refused, Value}
 use Rattle.numbers.specs.Bytes.{Bytes, byte, little}
 use Rattle.numbers.specs.Number.{numberAt}
 use Rattle.numbers.specs.Integer.{integerOf}
@@ -56,8 +57,8 @@ holds-meant null v h = refl
 holds-meant (integer i) v h = ap integer (h .says)
 holds-meant (option n) v h = ap (λ (l : List ℕ). option (little (drop 1 l))) (h .whole) ∙ ap option (h .says)
 holds-meant (string t) v h = ap string (spelt-take t v (h .whole))
-holds-meant (boolean false) v h = ap (λ (l : List ℕ). boolean (eqb (byte l 0) 255)) h
-holds-meant (boolean true) v h = ap (λ (l : List ℕ). boolean (eqb (byte l 0) 255)) h
+holds-meant (boolean false) v h = ap (λ (l : List ℕ). boolean (eqb (byte l 0) (booleanByte true))) h
+holds-meant (boolean true) v h = ap (λ (l : List ℕ). boolean (eqb (byte l 0) (booleanByte true))) h
 
 pub holds-unique : (x y : Scalar) (v : List ℕ) → formatOf x ≡ formatOf y → Holds x v → Holds y v → x ≡ y
 holds-unique x y v e h g = sym (holds-meant x v h) ∙ ap (λ (f : ℕ). meant f v) e ∙ holds-meant y v g
@@ -66,7 +67,7 @@ module _ (d : List ℕ) (row : ℕ) where
   pub scalar-complete : (x : Scalar) (v : List ℕ) → Holds x v → allowed d row x ≡ true → scalarValue d row (formatOf x) v ≡ worth x
   unfolding scalarValue integerValue booleanValue stringValue optionValue
   scalar-complete null v h a = rw h
-  scalar-complete (integer i) v h a = rw (le-leb 1 (length v) (h .least), le-leb (length v) 8 (h .most), h .says)
+  scalar-complete (integer i) v h a = rw (le-leb integerLeast (length v) (h .least), le-leb (length v) integerMost (h .most), h .says)
   scalar-complete (option n) v h a =
       let l : 1 + (length v - 1) ≡ length v = omega (arith, number-long h) in
       rw (number-at v v [] 0 (length v) n (sym (append-nil v)) h (omega arith), eq-eqb _ _ l, a)
@@ -109,7 +110,7 @@ ended v h e =
     let k : length v ≡ suc (length v - 1) = omega arith in
     sym (take-length v) ∙ ap (λ (n : ℕ). take n v) k ∙ take-suc v (length v - 1) 0 (omega arith) ∙ ap (λ (b : ℕ). take (length v - 1) v ++ (b ∷ [])) e
 
-pub last-form : (f : ℕ) → 2 ≤ f → f ≤ 7 → (f ≡ 6 → ⊥) → (f ≡ 2 → ⊥) → (f ≡ 3 → ⊥) → (f ≡ 4 → ⊥) → (f ≡ 5 → ⊥) → f ≡ 7
+pub last-form : (f : ℕ) → nullForm ≤ f → f ≤ booleanForm → (f ≡ realForm → ⊥) → (f ≡ nullForm → ⊥) → (f ≡ integerForm → ⊥) → (f ≡ enumForm → ⊥) → (f ≡ stringForm → ⊥) → f ≡ booleanForm
 last-form f low high r a b c k = omega arith
 
 module _ (d : List ℕ) (row : ℕ) (v : List ℕ) (x : Scalar) where
@@ -123,9 +124,9 @@ module _ (d : List ℕ) (row : ℕ) (v : List ℕ) (x : Scalar) where
   integer-sound : Bytes v → integerValue v ≡ worth x → Stated d row integerForm v x
   unfolding integerValue
   integer-sound hb e =
-      let t = whenever (leb 1 (length v) && leb (length v) 8) _ x e in
+      let t = whenever (leb integerLeast (length v) && leb (length v) integerMost) _ x e in
       is integerForm (integer (integerOf v)) (t .1) refl
-      (record { least = leb-true 1 (length v) (and-left _ _ (t .0)); most = leb-true (length v) 8 (and-right (leb 1 (length v)) _ (t .0)); bytes = hb; says = refl }) refl
+      (record { least = leb-true integerLeast (length v) (and-left _ _ (t .0)); most = leb-true (length v) integerMost (and-right (leb integerLeast (length v)) _ (t .0)); bytes = hb; says = refl }) refl
 
   string-sound : stringValue v ≡ worth x → Stated d row stringForm v x
   unfolding stringValue
@@ -141,18 +142,18 @@ module _ (d : List ℕ) (row : ℕ) (v : List ℕ) (x : Scalar) where
   unfolding booleanValue
   boolean-sound e = go (eqb (length v) 1 && eqb (byte v 0) 0) refl e
     where
-      go : (t : Bool) → eqb (length v) 1 && eqb (byte v 0) 0 ≡ t → choose t (λ _. worth (boolean false)) (λ _. when (eqb (length v) 1 && eqb (byte v 0) 255) (λ _. boolean true)) ≡ worth x → Stated d row booleanForm v x
+      go : (t : Bool) → eqb (length v) 1 && eqb (byte v 0) 0 ≡ t → choose t (λ _. worth (boolean false)) (λ _. when (eqb (length v) 1 && eqb (byte v 0) (booleanByte true)) (λ _. boolean true)) ≡ worth x → Stated d row booleanForm v x
       go true f e = is booleanForm (boolean false) (worth-is e) refl (single v 0 f) refl
       go false f e =
-          let t = whenever (eqb (length v) 1 && eqb (byte v 0) 255) _ x e in
-          is booleanForm (boolean true) (t .1) refl (single v 255 (t .0)) refl
+          let t = whenever (eqb (length v) 1 && eqb (byte v 0) (booleanByte true)) _ x e in
+          is booleanForm (boolean true) (t .1) refl (single v (booleanByte true) (t .0)) refl
 
   option-sound : Bytes v → optionValue d row v ≡ worth x → Stated d row enumForm v x
   unfolding optionValue
   option-sound hb e = go (numberAt v 0 (length v)) refl e
     where
       go : (r : Found) → numberAt v 0 (length v) ≡ r → optionIn d row v r ≡ worth x → Stated d row enumForm v x
-      go (Fault k) g e = never e
+      go (Refused k) g e = never e
       go (Value n w) g e =
           let t = whenever (eqb (1 + w) (length v) && found (childNumbered d row n)) (option n) x e in
           let l : 0 + 1 + w ≡ length v = eqb-true (1 + w) (length v) (and-left _ _ (t .0)) in
@@ -172,7 +173,7 @@ module _ (d : List ℕ) (row : ℕ) (v : List ℕ) (x : Scalar) where
       go true g e = rw (eqb-true f k g) (yes' e)
       go false g e = no' (eqb-false f k g) e
 
-  pub scalar-sound : (f : ℕ) → Bytes v → 2 ≤ f → f ≤ booleanForm → (f ≡ realForm → ⊥) → scalarValue d row f v ≡ worth x → Stated d row f v x
+  pub scalar-sound : (f : ℕ) → Bytes v → nullForm ≤ f → f ≤ booleanForm → (f ≡ realForm → ⊥) → scalarValue d row f v ≡ worth x → Stated d row f v x
   unfolding scalarValue
   scalar-sound f hb low high real e =
       choice f nullForm _ _ e null-sound λ a e.
@@ -183,7 +184,7 @@ module _ (d : List ℕ) (row : ℕ) (v : List ℕ) (x : Scalar) where
 
 -- no scalar of the format that the row allows: 10; but an option's number can fail as a number
 pub data Misvalued (d : List ℕ) (row f : ℕ) (v : List ℕ) (k : ℕ) : Type 0 where
-  no-option : f ≡ enumForm → numberAt v 0 (length v) ≡ Fault k → Misvalued d row f v k
+  no-option : f ≡ enumForm → numberAt v 0 (length v) ≡ Refused k → Misvalued d row f v k
   no-scalar : (f ≡ enumForm → (n : ℕ) × (w : ℕ) × (numberAt v 0 (length v) ≡ Value n w)) → ((x : Scalar) → Stated d row f v x → ⊥) → k ≡ valueWrong → Misvalued d row f v k
 
 wrong-is : {k m : ℕ} → wrong k ≡ wrong m → k ≡ m
@@ -210,24 +211,24 @@ module _ (d : List ℕ) (row f : ℕ) (v : List ℕ) where
     unfolding scalarValue integerValue booleanValue stringValue optionValue
     wrong-ten h e =
         turn nullForm _ _ e (λ z. ten (eqb (length v) 0) _) λ e.
-        turn integerForm _ _ e (λ z. ten (leb 1 (length v) && leb (length v) 8) _) λ e.
+        turn integerForm _ _ e (λ z. ten (leb integerLeast (length v) && leb (length v) integerMost) _) λ e.
         turn enumForm _ _ e (λ z e. options (numberAt v 0 (length v)) (h z) e) λ e.
         turn stringForm _ _ e (λ z. ten (leb 1 (length v) && eqb (byte v (length v - 1)) 0 && wellSpelt (take (length v - 1) v)) _) λ e.
         booleans (eqb (length v) 1 && eqb (byte v 0) 0) e
       where
-        booleans : (t : Bool) → choose t (λ _. worth (boolean false)) (λ _. when (eqb (length v) 1 && eqb (byte v 0) 255) (λ _. boolean true)) ≡ wrong k → k ≡ valueWrong
+        booleans : (t : Bool) → choose t (λ _. worth (boolean false)) (λ _. when (eqb (length v) 1 && eqb (byte v 0) (booleanByte true)) (λ _. boolean true)) ≡ wrong k → k ≡ valueWrong
         booleans true e = never (sym e)
-        booleans false e = ten (eqb (length v) 1 && eqb (byte v 0) 255) _ e
+        booleans false e = ten (eqb (length v) 1 && eqb (byte v 0) (booleanByte true)) _ e
 
         options : (r : Found) → (n : ℕ) × (w : ℕ) × (r ≡ Value n w) → optionIn d row v r ≡ wrong k → k ≡ valueWrong
-        options (Fault m) h e = absurd (let z : _≡_ {A = ℕ} 0 1 = cc (h .2) in omega arith)
+        options (Refused m) h e = absurd (let z : _≡_ {A = ℕ} 0 1 = cc (h .2) in omega arith)
         options (Value n w) h e = ten (eqb (1 + w) (length v) && found (childNumbered d row n)) (option n) e
 
-    option-fault : f ≡ enumForm → numberAt v 0 (length v) ≡ Fault k → scalarValue d row f v ≡ wrong k
+    option-fault : f ≡ enumForm → numberAt v 0 (length v) ≡ Refused k → scalarValue d row f v ≡ wrong k
     unfolding scalarValue optionValue
     option-fault e g = rw (e, g)
 
-  pub misvalued : (k : ℕ) → Bytes v → 2 ≤ f → f ≤ booleanForm → (f ≡ realForm → ⊥) → (scalarValue d row f v ≡ wrong k) ↔ Misvalued d row f v k
+  pub misvalued : (k : ℕ) → Bytes v → nullForm ≤ f → f ≤ booleanForm → (f ≡ realForm → ⊥) → (scalarValue d row f v ≡ wrong k) ↔ Misvalued d row f v k
   misvalued k hb low high real = (there, back)
     where
       none-stated : {m : ℕ} → scalarValue d row f v ≡ wrong m → (x : Scalar) → Stated d row f v x → ⊥
@@ -235,11 +236,11 @@ module _ (d : List ℕ) (row f : ℕ) (v : List ℕ) where
 
       numbered : (r : Found) → numberAt v 0 (length v) ≡ r → (t : Bool) → eqb f enumForm ≡ t → scalarValue d row f v ≡ wrong k → Misvalued d row f v k
       numbered (Value n w) g t b e = no-scalar (λ z. (n, w, g)) (none-stated e) (wrong-ten k (λ z. (n, w, g)) e)
-      numbered (Fault m) g true b e =
+      numbered (Refused m) g true b e =
           let z = eqb-true f enumForm b in
           let i : m ≡ k = wrong-is (sym (option-fault m z g) ∙ e) in
-          no-option z (g ∙ ap Fault i)
-      numbered (Fault m) g false b e = no-scalar (λ z. absurd (eqb-false f enumForm b z)) (none-stated e) (wrong-ten k (λ z. absurd (eqb-false f enumForm b z)) e)
+          no-option z (g ∙ ap Refused i)
+      numbered (Refused m) g false b e = no-scalar (λ z. absurd (eqb-false f enumForm b z)) (none-stated e) (wrong-ten k (λ z. absurd (eqb-false f enumForm b z)) e)
 
       there : scalarValue d row f v ≡ wrong k → Misvalued d row f v k
       there e = numbered (numberAt v 0 (length v)) refl (eqb f enumForm) refl e

@@ -12,18 +12,19 @@ use lib.ListN.{length}
 use lib.Seq.{slice}
 use lib.Dec.{ltb, eqb}
 use borrow.Author.Tests.{ltb-true, ltb-false, eqb-true}
-use Rattle.terms.specs.Checks.{choose, Judged, good, after}
-use Rattle.terms.proofs.Checks.{never, same-place, same-left, same-thing, needed, followed}
+use Rattle.paper.specs.Checks.{choose, Judged, good, after}
+use Rattle.paper.proofs.Checks.{never, same-place, same-left, same-thing, needed, followed}
 use Rattle.numbers.specs.Bytes.{Bytes}
 use Rattle.numbers.specs.Number.{Number, numberAt}
 use Rattle.numbers.proofs.Places.{bytes-slice}
-use Rattle.payload.specs.Tree.{Scalar, Shape, Tuples, none, formatOf, shapeFormat, size, count, depth}
+use Rattle.payload.specs.Tree.{Scalar, Tuples, none, formatOf, shapeFormat, size, count, depth}
+use Rattle.payload.specs.declared.Shape.{Shape}
 use Rattle.payload.specs.Writes.{Cut, Tuple, Holds, Writes}
 use Rattle.payload.specs.Fits.{known, child, fresh, fits, allowed, Sits, Fits}
 use Rattle.payload.specs.Values.{scalarValue}
 use Rattle.payload.specs.Reading.{Single, plain, group, numberFor, before, number, value, shapeOf, bodyAt, tupleAt, run, insideOf}
 use Rattle.payload.specs.Lying.{Lies, Read}
-use Rattle.payload.specs.Refusing.{Many}
+use Rattle.payload.specs.Reached.{Many}
 use Rattle.payload.proofs.Lying.{join, recast, part, number-read, renumber}
 use Rattle.payload.proofs.Taken.{numbered, valued}
 use Rattle.payload.proofs.Scalars.{Stated, scalar-sound}

@@ -12,14 +12,14 @@ use native.Mathlib.Omega.{arith}
 use native.Mathlib.Numerals.{add-one}
 use lib.ListN.{length, length-append}
 use lib.Dec.{eqb}
-use Rattle.terms.specs.Refusals.{valueWrong, tooDeep, afterRoot}
-use Rattle.terms.specs.Checks.{Judged, refused, good, need, after}
+use Rattle.paper.specs.Refusals.{valueWrong, tooDeep, afterRoot}
+use Rattle.paper.specs.Checks.{Judged, refused, good, need, after}
 use Rattle.numbers.specs.Number.{numberAt}
 use Rattle.payload.specs.Tree.{Tuples, none}
 use Rattle.payload.specs.Fits.{child}
 use Rattle.payload.specs.Text.{opens, closes, word, label, commaAt, textOf}
 use Rattle.payload.specs.Reading.{Single, plain, group, numberFor, before, number, tupleAt, run, insideOf, rootAt, treeOf}
-use Rattle.terms.proofs.Checks.{never, same-place, needed, followed}
+use Rattle.paper.proofs.Checks.{never, same-place, needed, followed}
 use Rattle.payload.proofs.Taken.{numbered}
 
 module _ (d s : List ℕ) where

@@ -10,7 +10,9 @@ use native.Mathlib.Omega.{arith}
 use lib.ListN.{length, length-append}
 use Rattle.numbers.specs.Number.{Number}
 use Rattle.numbers.proofs.Numbers.{same-front, number-cut}
-use Rattle.payload.specs.Tree.{Scalar, null, integer, option, string, boolean, Shape, aSet, anArray, Tuples, none, scalar, inner, formatOf, shapeFormat, size}
+use Rattle.payload.specs.Tree.{Scalar, null, integer, option, string, boolean, Tuples, none, scalar, inner, formatOf, shapeFormat, size}
+use Rattle.payload.specs.declared.Shape.{Shape}
+use Rattle.payload.specs.declared.Shape.the-variants.{Set, Array}
 use Rattle.payload.specs.Header.{headerWith}
 use Rattle.payload.specs.Writes.{Cut, Tuple, Writes, Payload}
 use Rattle.payload.specs.Text.{rootText, rootCount, Means}
@@ -62,14 +64,14 @@ scalar-high (string t) = omega arith
 scalar-high (boolean b) = omega arith
 
 pub shape-low : (g : Shape) → shapeFormat g < 2
-shape-low aSet = omega arith
-shape-low anArray = omega arith
+shape-low Set = omega arith
+shape-low Array = omega arith
 
 pub shape-unique : (g h : Shape) → shapeFormat g ≡ shapeFormat h → g ≡ h
-shape-unique aSet aSet e = refl
-shape-unique aSet anArray e = absurd (omega arith)
-shape-unique anArray aSet e = absurd (omega arith)
-shape-unique anArray anArray e = refl
+shape-unique Set Set e = refl
+shape-unique Set Array e = absurd (omega arith)
+shape-unique Array Set e = absurd (omega arith)
+shape-unique Array Array e = refl
 
 -- a run with its count, where its members are known to be alike
 counted-unique : (j k : Tuples) (v : List ℕ) → ((b : List ℕ) → Writes j b → Writes k b → j ≡ k) → Cut (Number (size j)) (Writes j) v → Cut (Number (size k)) (Writes k) v → j ≡ k

@@ -10,7 +10,7 @@ use native.Mathlib.Omega.{arith}
 use lib.ListN.{length, length-append}
 use lib.Dec.{leb, eqb}
 use borrow.Author.Tests.{leb-true}
-use Rattle.terms.proofs.Tests.{and-left, and-right}
+use Rattle.paper.proofs.Tests.{and-left, and-right}
 use Rattle.numbers.specs.Bytes.{Bytes}
 use Rattle.numbers.proofs.Places.{bytes-append}
 use Rattle.numbers.proofs.Numbers.{number-bytes}

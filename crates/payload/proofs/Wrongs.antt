@@ -13,7 +13,8 @@ use lib.ListN.{length}
 use lib.Seq.{slice, length-slice}
 use lib.Dec.{ltb, eqb}
 use borrow.Author.Tests.{ltb-true, ltb-false, eqb-true, eqb-false}
-use Rattle.terms.proofs.Tests.{so-not}
+use Rattle.paper.specs.Limits.{integerLeast, integerMost}
+use Rattle.paper.proofs.Tests.{so-not}
 use Rattle.numbers.specs.Bytes.{Bytes}
 use Rattle.numbers.specs.Number.{Number}
 use Rattle.numbers.specs.Integer.{integerOf}
@@ -38,7 +39,7 @@ module _ (v : List ℕ) where
   null-holds (string t) e h = absurd (omega arith)
   null-holds (boolean b) e h = absurd (omega arith)
 
-  integer-holds : (y : Scalar) → formatOf y ≡ integerForm → Holds y v → (1 ≤ length v) × (length v ≤ 8)
+  integer-holds : (y : Scalar) → formatOf y ≡ integerForm → Holds y v → (integerLeast ≤ length v) × (length v ≤ integerMost)
   integer-holds null e h = absurd (omega arith)
   integer-holds (integer i) e h = (h .least, h .most)
   integer-holds (option n) e h = absurd (omega arith)
@@ -118,12 +119,12 @@ module _ (d s : List ℕ) (row f q z : ℕ) where
       null-wrong i true g = null-with-bytes i (ltb-true q z g)
       null-wrong i false g = absurd (stated null i (empty (slice q z s) (let h = ltb-false q z g in omega (arith, long))) refl)
 
-      integer-wrong : f ≡ integerForm → (t u : Bool) → ltb z (q + 1) ≡ t → ltb (q + 8) z ≡ u → WrongScalar d s row f q z
+      integer-wrong : f ≡ integerForm → (t u : Bool) → ltb z (q + 1) ≡ t → ltb (q + integerMost) z ≡ u → WrongScalar d s row f q z
       integer-wrong i true u g h = integer-short i (ltb-true z (q + 1) g)
-      integer-wrong i false true g h = integer-long i (ltb-true (q + 8) z h)
+      integer-wrong i false true g h = integer-long i (ltb-true (q + integerMost) z h)
       integer-wrong i false false g h =
           let a = ltb-false z (q + 1) g in
-          let b = ltb-false (q + 8) z h in
+          let b = ltb-false (q + integerMost) z h in
           absurd (stated (integer (integerOf (slice q z s))) i (record { least = omega (arith, long); most = omega (arith, long); bytes = bytes-slice s q z hb; says = refl }) refl)
 
       option-wrong : (n p : ℕ) → f ≡ enumForm → Read s q z n p → (t u : Bool) → ltb p z ≡ t → found (childNumbered d row n) ≡ u → WrongScalar d s row f q z
@@ -138,7 +139,7 @@ module _ (d s : List ℕ) (row f q z : ℕ) where
       pub none-wrong : (f ≡ enumForm → (m : ℕ) × (p : ℕ) × Read s q z m p) → 2 ≤ f → Base f → WrongScalar d s row f q z
       none-wrong o low base =
           turn nullForm (λ i. null-wrong i (ltb q z) refl) λ a.
-          turn integerForm (λ i. integer-wrong i (ltb z (q + 1)) (ltb (q + 8) z) refl refl) λ b.
+          turn integerForm (λ i. integer-wrong i (ltb z (q + 1)) (ltb (q + integerMost) z) refl refl) λ b.
           turn enumForm (λ i. let r = o i in option-wrong (r .0) (r .1) i (r .2) (ltb (r .1) z) (found (childNumbered d row (r .0))) refl refl) λ c.
           turn stringForm (λ i. no-string i (λ t h. stated (string t) i h refl)) λ e.
           let i = last-form f low (base .high) (base .not-real) a b c e in

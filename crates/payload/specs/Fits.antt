@@ -1,18 +1,20 @@
 -- When a tree fits a dictionary, a row and a depth (document 01, "The payload"). The tests are those that the answers use; here nothing is said of their order.
+--   GroupRow d row           a row of an accepted dictionary that is a set or an array
 --   known, fresh, child      of a tuple in the value of a row: its number is known there, not given before, and its row
 --   fits, allowed            a format fits a row; a scalar's value is one of the row's
 --   Fits d t row i seen      the run t fits the value of the row, from position i on and after the numbers seen
-use Prim.Native.Nat.{ℕ, suc}
+use Prim.Native.Nat.{ℕ, suc, _<_}
 use mathlib.Core.Path.{_≡_}
 use mathlib.Core.List.{List, [], _∷_}
 use mathlib.Core.Bool.{Bool, true, false, not}
 use lib.Dec.{eqb}
-use Rattle.terms.specs.Checks.{choose}
-use Rattle.terms.specs.Tests.{among}
+use Rattle.paper.specs.Checks.{choose}
+use Rattle.paper.specs.Tests.{among}
 use Rattle.dictionary.specs.declared.Child.{Child}
 use Rattle.dictionary.specs.declared.Child.the-variants.{At, Nothing}
 use Rattle.dictionary.specs.Formats.{setForm, nullForm}
-use Rattle.dictionary.specs.Rows.{kind, nullable, firstChild}
+use Rattle.dictionary.specs.Rows.{entries, kind, nullable, firstChild}
+use Rattle.dictionary.specs.Accepts.{accepts}
 use Rattle.dictionary.specs.Children.{childNumbered}
 use Rattle.payload.specs.Tree.{Scalar, null, integer, option, string, boolean, Tuples, none, scalar, inner, formatOf, shapeFormat}
 
@@ -23,6 +25,11 @@ found Nothing = false
 abbrev pub rowOf : Child → ℕ
 rowOf (At c) = c
 rowOf Nothing = 0
+
+pub record GroupRow (d : List ℕ) (row : ℕ) : Type 0 where
+  pub accepted : accepts d ≡ true
+  pub inside : row < entries d
+  pub holds : kind d row < 2
 
 abbrev pub isSet : List ℕ → ℕ → Bool
 isSet d row = eqb (kind d row) setForm

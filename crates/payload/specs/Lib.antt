@@ -6,5 +6,8 @@ pub mod Fits
 pub mod Text
 pub mod Values
 pub mod Reading
+pub mod Answered
 pub mod Lying
+pub mod Reached
 pub mod Refusing
+pub mod Readable

@@ -10,18 +10,20 @@ use mathlib.Core.Bool.{Bool, true, not, _&&_, _||_}
 use lib.ListN.{length, drop}
 use lib.Seq.{slice}
 use lib.Dec.{ltb, leb, eqb}
-use Rattle.terms.specs.Limits.{payloadLeast, payloadMost, textMost, depthMost}
-use Rattle.terms.specs.Refusals.{dictionaryWrong, lengthWrong, headerDiffers, pastEnd, notKnown, givenTwice, notInBase, misfit, valueWrong, tooDeep, budgetSpent, afterRoot, noRoom, accepted}
-use Rattle.terms.specs.Checks.{choose, Judged, refused, good, refuse, need, after}
-use Rattle.terms.specs.declared.Answer.{Answer}
+use Rattle.paper.specs.Limits.{payloadLeast, payloadMost, textMost, depthMost}
+use Rattle.paper.specs.Refusals.{dictionaryWrong, lengthWrong, headerDiffers, pastEnd, notKnown, givenTwice, notInBase, misfit, valueWrong, tooDeep, budgetSpent, afterRoot, noRoom, accepted}
+use Rattle.paper.specs.Checks.{choose, Judged, refused, good, refuse, need, after}
+use Rattle.paper.specs.declared.Answer.{Answer}
 use Rattle.numbers.specs.declared.Found.{Found}
-use Rattle.numbers.specs.declared.Found.the-variants.{Fault, Value}
+use Rattle.numbers.specs.declared.Found.the-variants.{Refused, Value}
 use Rattle.numbers.specs.Bytes.{byte}
 use Rattle.numbers.specs.Number.{numberAt}
 use Rattle.dictionary.specs.Formats.{setForm, realForm, booleanForm}
 use Rattle.dictionary.specs.Accepts.{accepts}
-use Rattle.payload.specs.Tree.{Scalar, Shape, aSet, anArray, Tuples, none, scalar, inner}
-use Rattle.payload.specs.Header.{headerFine}
+use Rattle.payload.specs.Tree.{Scalar, Tuples, none, scalar, inner}
+use Rattle.payload.specs.declared.Shape.{Shape}
+use Rattle.payload.specs.declared.Shape.the-variants.{Set, Array}
+use Rattle.payload.specs.Header.{headerAgrees}
 use Rattle.payload.specs.Fits.{known, child, fresh, fits}
 use Rattle.payload.specs.Text.{rootText, rootCount}
 use Rattle.payload.specs.Values.{Valued, wrong, worth, scalarValue}
@@ -41,7 +43,7 @@ before (group n g kids) rest = inner n g kids rest
 
 -- goes on with a number's value and the place after it; its faults are given at the tuple's start
 abbrev pub number : {A : Type 0} → Found → ℕ → ℕ → (ℕ → ℕ → Judged A) → Judged A
-number (Fault k) at p go = refused k at
+number (Refused k) at p go = refused k at
 number (Value n w) at p go = go n (p + 1 + w)
 
 abbrev pub value : {A : Type 0} → Valued → ℕ → (Scalar → Judged A) → Judged A
@@ -56,8 +58,8 @@ abbrev pub isGroup : ℕ → Bool
 isGroup f = ltb f 2
 
 abbrev pub shapeOf : ℕ → Shape
-shapeOf zero = aSet
-shapeOf (suc f) = anArray
+shapeOf zero = Set
+shapeOf (suc f) = Array
 
 -- "Checks for a tuple, in this order: budget; S; selector; sequence known; repeat; deferred bit and format supported; format fits the row; L; room in the enclosing value; depth; value." Those of a tuple
 -- at `at` that ends by e, with l left of the budget: `knows`, `news` and `suits` are the tests of its number, of a repeat and of its format, and `body` judges V, whose number, format, first byte and end it is given
@@ -136,7 +138,7 @@ unfoldable pub reads : List ℕ → List ℕ → ℕ → ℕ → Outcome
 reads d s budget room =
     choose (not (accepts d)) (λ _. refusal dictionaryWrong 0) λ _.
     choose (ltb (length s) payloadLeast || ltb payloadMost (length s)) (λ _. refusal lengthWrong 0) λ _.
-    choose (not (headerFine s)) (λ _. refusal headerDiffers 0) λ _.
+    choose (not (headerAgrees s)) (λ _. refusal headerDiffers 0) λ _.
     spoken d room (treeOf d s budget)
 
 -- "A refusal changes nothing lent; its count and length are 0. Acceptance is number 0, place 0. After acceptance, bytes past the reported length are as before."

@@ -8,12 +8,14 @@ use Prim.Native.Nat.{ℕ, zero, suc, _≤_}
 use mathlib.Core.Path.{_≡_}
 use mathlib.Core.List.{List, [], _∷_, _++_}
 use mathlib.Core.Bool.{true, false}
-use Rattle.terms.specs.Limits.{depthMost}
-use Rattle.terms.specs.Checks.{choose}
+use Rattle.paper.specs.Limits.{depthMost}
+use Rattle.paper.specs.Checks.{choose}
 use Rattle.numbers.specs.Decimal.{decimalOf}
 use Rattle.dictionary.specs.Rows.{name}
 use Rattle.dictionary.specs.Children.{childNumbered}
-use Rattle.payload.specs.Tree.{Scalar, null, integer, option, string, boolean, Shape, aSet, anArray, Tuples, none, scalar, inner, count, depth}
+use Rattle.payload.specs.Tree.{Scalar, null, integer, option, string, boolean, Tuples, none, scalar, inner, count, depth}
+use Rattle.payload.specs.declared.Shape.{Shape}
+use Rattle.payload.specs.declared.Shape.the-variants.{Set, Array}
 use Rattle.payload.specs.Writes.{Payload}
 use Rattle.payload.specs.Fits.{Fits, isSet, child, rowOf}
 
@@ -28,12 +30,12 @@ abbrev pub colon : ℕ
 colon = 58
 
 abbrev pub opens : Shape → ℕ
-opens aSet = 123
-opens anArray = 91
+opens Set = 123
+opens Array = 91
 
 abbrev pub closes : Shape → ℕ
-closes aSet = 125
-closes anArray = 93
+closes Set = 125
+closes Array = 93
 
 abbrev pub nullText : List ℕ
 nullText = 110 ∷ 117 ∷ 108 ∷ 108 ∷ []
@@ -72,7 +74,7 @@ module _ (d : List ℕ) where
 
   -- the text of a payload whose root has these members
   abbrev pub rootText : Tuples → List ℕ
-  rootText t = opens aSet ∷ (textOf t 0 0 ++ (closes aSet ∷ []))
+  rootText t = opens Set ∷ (textOf t 0 0 ++ (closes Set ∷ []))
 
   -- root counted
   abbrev pub rootCount : Tuples → ℕ

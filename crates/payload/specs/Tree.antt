@@ -8,6 +8,8 @@ use mathlib.Core.List.{List}
 use mathlib.Core.Bool.{Bool, true, false}
 use Rattle.numbers.specs.declared.Integer.{Integer}
 use Rattle.dictionary.specs.Formats.{setForm, arrayForm, nullForm, integerForm, enumForm, stringForm, booleanForm}
+use Rattle.payload.specs.declared.Shape.{Shape}
+use Rattle.payload.specs.declared.Shape.the-variants.{Set, Array}
 
 -- a value that holds no tuples. An enum's is the number of its option; a string's has no closing 00
 pub data Scalar : Type 0 where
@@ -16,10 +18,6 @@ pub data Scalar : Type 0 where
   option : ℕ → Scalar
   string : List ℕ → Scalar
   boolean : Bool → Scalar
-
-pub data Shape : Type 0 where
-  aSet : Shape
-  anArray : Shape
 
 -- none; or a tuple, with its sequence number or index and its value, before a run
 pub data Tuples : Type 0 where
@@ -35,8 +33,8 @@ formatOf (string t) = stringForm
 formatOf (boolean b) = booleanForm
 
 abbrev pub shapeFormat : Shape → ℕ
-shapeFormat aSet = setForm
-shapeFormat anArray = arrayForm
+shapeFormat Set = setForm
+shapeFormat Array = arrayForm
 
 -- "Boolean: 00 or FF (house)."
 abbrev pub booleanByte : Bool → ℕ

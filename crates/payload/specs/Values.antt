@@ -4,11 +4,11 @@ use mathlib.Core.List.{List}
 use mathlib.Core.Bool.{Bool, true, false, _&&_}
 use lib.ListN.{length, take}
 use lib.Dec.{leb, eqb}
-use Rattle.terms.specs.Limits.{integerLeast, integerMost}
-use Rattle.terms.specs.Refusals.{valueWrong}
-use Rattle.terms.specs.Checks.{choose}
+use Rattle.paper.specs.Limits.{integerLeast, integerMost}
+use Rattle.paper.specs.Refusals.{valueWrong}
+use Rattle.paper.specs.Checks.{choose}
 use Rattle.numbers.specs.declared.Found.{Found}
-use Rattle.numbers.specs.declared.Found.the-variants.{Fault, Value}
+use Rattle.numbers.specs.declared.Found.the-variants.{Refused, Value}
 use Rattle.numbers.specs.Bytes.{byte}
 use Rattle.numbers.specs.Number.{numberAt}
 use Rattle.numbers.specs.Integer.{integerOf}
@@ -39,7 +39,7 @@ stringValue v =
 
 -- the option's number is a field, so it can fail as one (4, 5); then it has to fill V and to be known
 abbrev pub optionIn : List ℕ → ℕ → List ℕ → Found → Valued
-optionIn d row v (Fault k) = wrong k
+optionIn d row v (Refused k) = wrong k
 optionIn d row v (Value n w) = when (eqb (1 + w) (length v) && found (childNumbered d row n)) (λ _. option n)
 
 unfoldable pub optionValue : List ℕ → ℕ → List ℕ → Valued

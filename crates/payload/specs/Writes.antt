@@ -8,12 +8,13 @@ use mathlib.Core.Path.{_≡_}
 use mathlib.Core.List.{List, [], _∷_, _++_}
 use mathlib.Core.Bool.{true}
 use lib.ListN.{length}
-use Rattle.terms.specs.Limits.{integerLeast, integerMost}
+use Rattle.paper.specs.Limits.{integerLeast, integerMost}
 use Rattle.numbers.specs.declared.Integer.{Integer}
 use Rattle.numbers.specs.Bytes.{Bytes}
 use Rattle.numbers.specs.Number.{Number}
 use Rattle.numbers.specs.Integer.{integerOf}
-use Rattle.payload.specs.Tree.{Scalar, null, integer, option, string, boolean, Tuples, none, scalar, inner, aSet, formatOf, shapeFormat, booleanByte, size}
+use Rattle.payload.specs.Tree.{Scalar, null, integer, option, string, boolean, Tuples, none, scalar, inner, formatOf, shapeFormat, booleanByte, size}
+use Rattle.payload.specs.declared.Shape.the-variants.{Set}
 use Rattle.payload.specs.Header.{headerWith}
 use Rattle.payload.specs.Strings.{wellSpelt}
 
@@ -45,7 +46,7 @@ pub record Sized (P : List ℕ → Type 0) (b : List ℕ) : Type 0 where
 abbrev pub Tuple : ℕ → ℕ → (List ℕ → Type 0) → List ℕ → Type 0
 Tuple n f P b = Cut (Number (2 * n)) (Cut (Format f) (Sized P)) b
 
-pub record Whole (i : Integer) (v : List ℕ) : Type 0 where
+pub record TwosComplement (i : Integer) (v : List ℕ) : Type 0 where
   pub least : integerLeast ≤ length v
   pub most : length v ≤ integerMost
   pub bytes : Bytes v
@@ -58,7 +59,7 @@ pub record Spelt (t v : List ℕ) : Type 0 where
 -- "Null: no bytes .. Integer: two's complement. Boolean: 00 or FF (house). Enum: the option's number, filling V. String: bytes as in names, perhaps none, then one 00."
 abbrev pub Holds : Scalar → List ℕ → Type 0
 Holds null v = v ≡ []
-Holds (integer i) v = Whole i v
+Holds (integer i) v = TwosComplement i v
 Holds (option n) v = Number n v
 Holds (string t) v = Spelt t v
 Holds (boolean b) v = v ≡ booleanByte b ∷ []
@@ -76,4 +77,4 @@ pub record Payload (t : Tuples) (b : List ℕ) : Type 0 where
   pub flags : Bytes (flag ∷ flag′ ∷ [])
   pub body : List ℕ
   pub whole : b ≡ headerWith flag flag′ ++ body
-  pub root : Tuple 0 (shapeFormat aSet) (Cut (Number (size t)) (Writes t)) body
+  pub root : Tuple 0 (shapeFormat Set) (Cut (Number (size t)) (Writes t)) body

@@ -1,2 +1,0 @@
-pub mod Rendered
-pub mod Answered

@@ -1,0 +1,2 @@
+pub mod Insides
+pub mod Roots
