@@ -9,17 +9,19 @@ use mathlib.Core.Bool.{Bool, true, false}
 use Prim.Native.Nat.{ℕ, zero, suc, _+_, _<_}
 use native.Mathlib.Omega.{arith}
 use lib.ListN.{length, getD}
-use Rattle.terms.proofs.Tests.{and-both}
+use Rattle.paper.proofs.Tests.{and-both}
 use Rattle.numbers.proofs.Decimals.{text-integral}
 use Rattle.dictionary.specs.Formats.{enumForm}
 use Rattle.dictionary.specs.Rows.{entries, kind, firstChild, childCount, name}
 use Rattle.dictionary.specs.Accepts.{nameByte, accepts}
 use Rattle.dictionary.specs.Children.{childNumbered}
 use Rattle.dictionary.proofs.Laws.{accepted-name, accepted-header, accepted-family, number-known, enum-parent}
-use Rattle.payload.specs.Tree.{Scalar, null, integer, option, string, boolean, Shape, aSet, anArray, Tuples, none, scalar, inner, formatOf, shapeFormat}
+use Rattle.payload.specs.Tree.{Scalar, null, integer, option, string, boolean, Tuples, none, scalar, inner, formatOf, shapeFormat}
+use Rattle.payload.specs.declared.Shape.{Shape}
+use Rattle.payload.specs.declared.Shape.the-variants.{Set, Array}
 use Rattle.payload.specs.Strings.{stringByte, wellSpelt}
 use Rattle.payload.specs.Fits.{Fits, isSet, child, rowOf, fits, allowed}
-use Rattle.payload.specs.Text.{opens, closes, rootText}
+use Rattle.payload.specs.Text.{comma, colon, opens, closes, rootText}
 use Rattle.payload.proofs.Sitting.{fits-own, option-known}
 use Rattle.text.specs.Tokens.{Token, aSign, sign}
 use Rattle.text.specs.Spells.{Spells, tokenOf, labelTokens, commaToken, tokensOf, rootTokens, less}
@@ -49,19 +51,19 @@ spelt-at (c ∷ t) h = and-both (nameByte c) (wellSpelt t) (h 0 (omega arith)) (
 
 pub opens-sign : (g : Shape) → sign (opens g) ≡ true
 unfolding sign
-opens-sign aSet = refl
-opens-sign anArray = refl
+opens-sign Set = refl
+opens-sign Array = refl
 
 pub closes-sign : (g : Shape) → sign (closes g) ≡ true
 unfolding sign
-closes-sign aSet = refl
-closes-sign anArray = refl
+closes-sign Set = refl
+closes-sign Array = refl
 
-pub colon-sign : sign 58 ≡ true
+pub colon-sign : sign colon ≡ true
 unfolding sign
 colon-sign = refl
 
-pub comma-sign : sign 44 ≡ true
+pub comma-sign : sign comma ≡ true
 unfolding sign
 comma-sign = refl
 
@@ -123,7 +125,7 @@ module _ (d : List ℕ) (ok : accepts d ≡ true) where
   unfolding AllClean
   root-clean t p f =
       let z = accepted-header d ok in
-      (opens-sign aSet, clean-append (tokensOf d t 0 0) (aSign (closes aSet) ∷ []) (tokens-clean t aSet 0 0 [] (omega (arith, z .some)) (z .root) p f) (closes-sign aSet, tt))
+      (opens-sign Set, clean-append (tokensOf d t 0 0) (aSign (closes Set) ∷ []) (tokens-clean t Set 0 0 [] (omega (arith, z .some)) (z .root) p f) (closes-sign Set, tt))
 
   pub less-text : (t : Tuples) (s : List ℕ) → Spells (rootTokens d t) s → Sound t → Fits d t 0 0 [] → less s ≡ rootText d t
   less-text t s y p f = less-flat (rootTokens d t) s (all-tight-of (rootTokens d t) (root-clean t p f)) y ∙ root-flat d t

@@ -13,13 +13,14 @@ use lib.ListN.{length, take, drop, length-drop}
 use lib.Seq.{slice}
 use lib.Dec.{eqb}
 use borrow.Author.Tests.{eqb-true, eq-eqb}
-use Rattle.terms.specs.Checks.{choose}
-use Rattle.terms.proofs.Tests.{and-left, and-right, and-both, not-so, so-not}
+use Rattle.paper.specs.Checks.{choose}
+use Rattle.paper.proofs.Tests.{and-left, and-right, and-both, not-so, so-not}
 use Rattle.numbers.specs.Decimal.{digit, digitsOnly, integral}
 use Rattle.numbers.proofs.Decimals.{only-head, only-tail, plain-only, integral-plus, integral-minus}
 use Rattle.numbers.proofs.Places.{slice-take}
 use Rattle.payload.specs.Strings.{stringByte, wellSpelt}
-use Rattle.payload.specs.Text.{quote, nullText, trueText, falseText}
+use Rattle.payload.specs.declared.Shape.the-variants.{Set, Array}
+use Rattle.payload.specs.Text.{quote, comma, colon, opens, closes, nullText, trueText, falseText}
 use Rattle.payload.specs.Lying.{Lies}
 use Rattle.payload.proofs.Lying.{part}
 use Rattle.text.specs.Tokens.{Token, aSign, aString, aNull, aBoolean, anInteger, aReal, spelt, space, sign, letter, wordByte}
@@ -43,19 +44,19 @@ or-back false b e = e
 byte-is : (P : ℕ → Type 0) (c n : ℕ) → P n → eqb c n ≡ true → P c
 byte-is P c n x e = rw (eqb-true c n e) x
 
-pub sign-is : (P : ℕ → Type 0) → P 123 → P 125 → P 91 → P 93 → P 58 → P 44 → (c : ℕ) → sign c ≡ true → P c
+pub sign-is : (P : ℕ → Type 0) → P (opens Set) → P (closes Set) → P (opens Array) → P (closes Array) → P colon → P comma → (c : ℕ) → sign c ≡ true → P c
 unfolding sign
 sign-is P x₁ x₂ x₃ x₄ x₅ x₆ c e =
     or-by _ _
     (or-by _ _
-    (or-by _ _ (or-by _ _ (or-by _ _ (byte-is P c 123 x₁) (byte-is P c 125 x₂)) (byte-is P c 91 x₃)) (byte-is P c 93 x₄))
-    (byte-is P c 58 x₅))
-    (byte-is P c 44 x₆) e
+    (or-by _ _ (or-by _ _ (or-by _ _ (byte-is P c (opens Set) x₁) (byte-is P c (closes Set) x₂)) (byte-is P c (opens Array) x₃)) (byte-is P c (closes Array) x₄))
+    (byte-is P c colon x₅))
+    (byte-is P c comma x₆) e
 
-pub space-is : (P : ℕ → Type 0) → P 32 → P 9 → P 10 → P 13 → (c : ℕ) → space c ≡ true → P c
+pub space-is : (P : ℕ → Type 0) → P 0x20 → P 0x09 → P 0x0A → P 0x0D → (c : ℕ) → space c ≡ true → P c
 unfolding space
 space-is P x₁ x₂ x₃ x₄ c e =
-    or-by _ _ (or-by _ _ (or-by _ _ (byte-is P c 32 x₁) (byte-is P c 9 x₂)) (byte-is P c 10 x₃)) (byte-is P c 13 x₄) e
+    or-by _ _ (or-by _ _ (or-by _ _ (byte-is P c 0x20 x₁) (byte-is P c 0x09 x₂)) (byte-is P c 0x0A x₃)) (byte-is P c 0x0D x₄) e
 
 pub word-no-space : (c : ℕ) → wordByte c ≡ true → space c ≡ false
 unfolding wordByte letter
@@ -79,10 +80,10 @@ sign-no-space c e = sign-is (λ c. space c ≡ false) refl refl refl refl refl r
 
 pub word-no-quote : (c : ℕ) → wordByte c ≡ true → eqb c quote ≡ false
 unfolding wordByte letter
-word-no-quote c e = not-so (eqb c 34) λ s. so-not (wordByte c) (byte-is (λ c. wordByte c ≡ false) c 34 refl s) e
+word-no-quote c e = not-so (eqb c quote) λ s. so-not (wordByte c) (byte-is (λ c. wordByte c ≡ false) c quote refl s) e
 
 sign-no-quote : (c : ℕ) → sign c ≡ true → eqb c quote ≡ false
-sign-no-quote c e = sign-is (λ c. eqb c 34 ≡ false) refl refl refl refl refl refl c e
+sign-no-quote c e = sign-is (λ c. eqb c quote ≡ false) refl refl refl refl refl refl c e
 
 digit-word : (c : ℕ) → digit c ≡ true → wordByte c ≡ true
 unfolding wordByte

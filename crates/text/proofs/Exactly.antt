@@ -13,9 +13,9 @@ use native.Mathlib.Omega.{arith}
 use lib.ListN.{length}
 use lib.Dec.{ltb, eqb}
 use borrow.Author.Tests.{ltb-false, le-ltb, not-false}
-use Rattle.terms.specs.Limits.{payloadLeast, payloadMost, textLeast, textMost}
-use Rattle.terms.specs.Checks.{choose, Judged, refused, good}
-use Rattle.terms.proofs.Tests.{or-left, or-right}
+use Rattle.paper.specs.Limits.{payloadLeast, payloadMost, textLeast, textMost}
+use Rattle.paper.specs.Checks.{choose, Judged, refused, good}
+use Rattle.paper.proofs.Tests.{or-left, or-right}
 use Rattle.numbers.specs.Bytes.{Bytes}
 use Rattle.dictionary.specs.Accepts.{accepts}
 use Rattle.payload.specs.Tree.{Tuples}
@@ -66,17 +66,17 @@ module _ (d s : List ℕ) (room : ℕ) where
   unfolding writes
   writes-written b n e =
       let a = by-way (not (accepts d)) _ _ _ b n e in
-      let c = by-way (ltb (length s) 1 || ltb 65535 (length s)) _ _ _ b n (a .1) in
-      go (not-false _ (a .0)) (ltb-false (length s) 1 (or-left _ _ (c .0))) (ltb-false 65535 (length s) (or-right (ltb (length s) 1) _ (c .0))) (treeOf d s) refl (c .1)
+      let c = by-way (ltb (length s) textLeast || ltb textMost (length s)) _ _ _ b n (a .1) in
+      go (not-false _ (a .0)) (ltb-false (length s) textLeast (or-left _ _ (c .0))) (ltb-false textMost (length s) (or-right (ltb (length s) textLeast) _ (c .0))) (treeOf d s) refl (c .1)
     where
-      go : accepts d ≡ true → 1 ≤ length s → length s ≤ 65535 → (r : Judged Tuples) → treeOf d s ≡ r → spoken d room r ≡ result b n → Written b n
+      go : accepts d ≡ true → textLeast ≤ length s → length s ≤ textMost → (r : Judged Tuples) → treeOf d s ≡ r → spoken d room r ≡ result b n → Written b n
       go ok l m (refused k w) g e = no-result e
       go ok l m (good q j t) g e =
           let u = payloadOf t in
-          let a = by-way (ltb room (length u) || ltb 16384 (length u)) _ _ _ b n e in
+          let a = by-way (ltb room (length u) || ltb payloadMost (length u)) _ _ _ b n e in
           let i : u ≡ b = result-text (a .1) in
           let o = ltb-false room (length u) (or-left _ _ (a .0)) in
-          let c = ltb-false 16384 (length u) (or-right (ltb room (length u)) _ (a .0)) in
+          let c = ltb-false payloadMost (length u) (or-right (ltb room (length u)) _ (a .0)) in
           record {
             tree = t;
             accepting = ok;
@@ -106,7 +106,7 @@ module _ (d s : List ℕ) (room : ℕ) where
   module _ (ok : accepts d ≡ true) (least : textLeast ≤ length s) (most : length s ≤ textMost) where
     pub writes-on : writes d s room ≡ spoken d room (treeOf d s)
     unfolding writes
-    writes-on = rw (ok, le-ltb (length s) 1 least, le-ltb 65535 (length s) most)
+    writes-on = rw (ok, le-ltb (length s) textLeast least, le-ltb textMost (length s) most)
 
     pub writes-complete : (b : List ℕ) (n : ℕ) (y : Says d s b n) → length b ≤ room → length b ≤ payloadMost → writes d s room ≡ result (payloadOf (y .tree)) n
     writes-complete b n y h g =
@@ -114,8 +114,8 @@ module _ (d s : List ℕ) (room : ℕ) where
         let z = (payload-shortest (y .tree) b (y .written)) .least in
         writes-on ∙ ap (spoken d room) (o .1) ∙ fits-in (payloadOf (y .tree)) (rootCount d (y .tree)) (omega arith) (omega arith) (y .tuples)
       where
-        fits-in : (u : List ℕ) (k : ℕ) → length u ≤ room → length u ≤ 16384 → k ≡ n → fitted room payloadMost u k ≡ result u n
-        fits-in u k r x j = rw (j, le-ltb room (length u) r, le-ltb 16384 (length u) x)
+        fits-in : (u : List ℕ) (k : ℕ) → length u ≤ room → length u ≤ payloadMost → k ≡ n → fitted room payloadMost u k ≡ result u n
+        fits-in u k r x j = rw (j, le-ltb room (length u) r, le-ltb payloadMost (length u) x)
 
     pub writes-exactly : ((b : List ℕ) × (n : ℕ) × (writes d s room ≡ result b n)) ↔ ((b : List ℕ) × (n : ℕ) × Says d s b n × (length b ≤ room) × (length b ≤ payloadMost))
     writes-exactly = (
@@ -145,15 +145,17 @@ module _ (d s : List ℕ) (room : ℕ) where
 pub shortest-read : (d s : List ℕ) (room : ℕ) (b b′ : List ℕ) (n n′ budget room′ : ℕ) → Bytes b′ → writes d s room ≡ result b n → reads d b′ budget room′ ≡ result (less s) n′ → (length b ≤ length b′) × (n′ ≡ n)
 shortest-read d s room b b′ n n′ budget room′ hb e f = shortest-written d s room b b′ n n′ e ((reads-sound d b′ budget room′ (less s) n′ hb f) .0)
 
-pub other-way-round : (d p t : List ℕ) (n budget room room′ : ℕ) → Bytes p → reads d p budget room ≡ result t n → length p ≤ room′ → (b : List ℕ) × (writes d t room′ ≡ result b n) × (length b ≤ length p) × (reads d b budget room ≡ result t n)
-other-way-round d p t n budget room room′ hb e h =
+pub other-way-round : (d p t : List ℕ) (n budget room : ℕ) → Bytes p → reads d p budget room ≡ result t n → (b : List ℕ) × (length b ≤ length p) × ((room′ : ℕ) → length b ≤ room′ → writes d t room′ ≡ result b n) × (reads d b budget room ≡ result t n)
+other-way-round d p t n budget room hb e =
     let o = reads-passed d p budget room t n e in
     let r = reads-sound d p budget room t n hb e in
     made (o .accepting) (o .in-table .most) (r .0) (r .1) (r .2) (r .3)
   where
-    made : accepts d ≡ true → length p ≤ payloadMost → Means d p t n → n ≤ budget → length t ≤ room → length t ≤ textMost → (b : List ℕ) × (writes d t room′ ≡ result b n) × (length b ≤ length p) × (reads d b budget room ≡ result t n)
+    made : accepts d ≡ true → length p ≤ payloadMost → Means d p t n → n ≤ budget → length t ≤ room → length t ≤ textMost → (b : List ℕ) × (length b ≤ length p) × ((room′ : ℕ) → length b ≤ room′ → writes d t room′ ≡ result b n) × (reads d b budget room ≡ result t n)
     made ok most m h₁ h₂ h₃ =
-        let y : Says d t p n = record { tree = m .tree; spells = rw (m .text) at (root-spells d (m .tree)); written = m .written; fitting = m .fitting; shallow = m .shallow; tuples = m .tuples } in
+        let s = payload-shortest (m .tree) p (m .written) in
+        let b = payloadOf (m .tree) in
+        let y : Says d t b n = record { tree = m .tree; spells = rw (m .text) at (root-spells d (m .tree)); written = s .written; fitting = m .fitting; shallow = m .shallow; tuples = m .tuples } in
         let z : less t ≡ t = less-text d ok (m .tree) t (rw (m .text) at (root-spells d (m .tree))) (payload-sound (m .tree) p (m .written)) (m .fitting) ∙ m .text in
-        let w = writes-complete d t room′ ok (omega (arith, ap length (m .text))) h₃ p n y h most in
-        (payloadOf (m .tree), w, (payload-shortest (m .tree) p (m .written)) .least, rw z at (read-back d t room′ (payloadOf (m .tree)) n budget room w h₁ (omega (arith, ap length z))))
+        let w : (room′ : ℕ) → length b ≤ room′ → writes d t room′ ≡ result b n = λ room′ h. writes-complete d t room′ ok (omega (arith, ap length (m .text))) h₃ b n y h (omega (arith, s .least, most)) in
+        (b, s .least, w, rw z at (read-back d t (length b) b n budget room (w (length b) (omega arith)) h₁ (omega (arith, ap length z))))

@@ -12,8 +12,9 @@ use Prim.Native.Nat.{ℕ, zero, suc}
 use native.Mathlib.Omega.{arith}
 use lib.Dec.{eqb}
 use borrow.Author.Tests.{ne-eqb}
-use Rattle.terms.proofs.Tests.{and-left, and-right}
-use Rattle.payload.specs.Tree.{Scalar, null, integer, option, string, boolean, aSet, Tuples, none, scalar, inner}
+use Rattle.paper.proofs.Tests.{and-left, and-right}
+use Rattle.payload.specs.Tree.{Scalar, null, integer, option, string, boolean, Tuples, none, scalar, inner}
+use Rattle.payload.specs.declared.Shape.the-variants.{Set}
 use Rattle.payload.specs.Fits.{child, isSet}
 use Rattle.payload.specs.Text.{quote, opens, closes, word, label, commaAt, textOf, rootText}
 use Rattle.text.specs.Tokens.{Token, aSign, aString, spelt, space}
@@ -88,8 +89,8 @@ module _ (d : List ℕ) where
   pub root-flat : (t : Tuples) → flat (rootTokens d t) ≡ rootText d t
   unfolding flat
   root-flat t =
-      ap (λ (l : List ℕ). opens aSet ∷ l)
-      (flat-append (tokensOf d t 0 0) (aSign (closes aSet) ∷ []) ∙ ap (λ (l : List ℕ). l ++ (closes aSet ∷ [])) (tokens-text t 0 0))
+      ap (λ (l : List ℕ). opens Set ∷ l)
+      (flat-append (tokensOf d t 0 0) (aSign (closes Set) ∷ []) ∙ ap (λ (l : List ℕ). l ++ (closes Set ∷ [])) (tokens-text t 0 0))
 
   -- the reader's text spells its tree, with no spaces
   pub root-spells : (t : Tuples) → Spells (rootTokens d t) (rootText d t)
@@ -124,7 +125,7 @@ solid-tight (c ∷ w) x h = rw (h .0 .no-quote, h .0 .no-space) (ap (λ (l : Lis
 inside-tight : (t x : List ℕ) → Unquoted t → lessFrom true (t ++ (quote ∷ x)) ≡ t ++ (quote ∷ less x)
 unfolding lessFrom
 inside-tight [] x h = refl
-inside-tight (c ∷ t) x h = rw (ne-eqb c 34 (h .0)) (ap (λ (l : List ℕ). c ∷ l) (inside-tight t x (h .1)))
+inside-tight (c ∷ t) x h = rw (ne-eqb c quote (h .0)) (ap (λ (l : List ℕ). c ∷ l) (inside-tight t x (h .1)))
 
 pub string-tight : (t : List ℕ) → Unquoted t → Tight (aString t)
 unfolding lessFrom
@@ -134,9 +135,9 @@ string-tight t h x =
 
 space-quote : (c : ℕ) → space c ≡ true → eqb c quote ≡ false
 unfolding space
-space-quote c e = ne-eqb c 34 (λ z. bad z)
+space-quote c e = ne-eqb c quote (λ z. bad z)
   where
-    bad : c ≡ 34 → ⊥
+    bad : c ≡ quote → ⊥
     bad z = let w : false ≡ true = rw z at e in absurd (let y : _≡_ {A = ℕ} 0 1 = cc in omega arith)
 
 pub blank-less : (b x : List ℕ) → blank b ≡ true → less (b ++ x) ≡ less x

@@ -6,17 +6,19 @@
 use mathlib.Core.Path.{_≡_, refl, sym, ap, _∙_}
 use mathlib.Core.List.{List, [], _∷_, _++_, append-assoc, append-nil}
 use mathlib.Core.Bool.{Bool, true, false}
-use Prim.Native.Nat.{ℕ, zero, suc, _+_, _<_, _≤_}
+use Prim.Native.Nat.{ℕ, zero, suc, _+_, _-_, _<_, _≤_}
 use native.Mathlib.Omega.{arith}
 use lib.ListN.{length, drop, length-drop}
 use lib.Dec.{eqb}
 use borrow.Author.Tests.{le-leb}
-use Rattle.terms.specs.Limits.{depthMost}
-use Rattle.terms.specs.Checks.{Judged, good}
+use Rattle.paper.specs.Limits.{depthMost}
+use Rattle.paper.specs.Checks.{Judged, good}
 use Rattle.dictionary.specs.Rows.{entries, kind, name}
 use Rattle.dictionary.specs.Accepts.{accepts}
 use Rattle.dictionary.proofs.Laws.{accepted-header}
-use Rattle.payload.specs.Tree.{Scalar, null, integer, option, string, boolean, Shape, aSet, anArray, Tuples, none, scalar, inner, shapeFormat, depth}
+use Rattle.payload.specs.Tree.{Scalar, null, integer, option, string, boolean, Tuples, none, scalar, inner, shapeFormat, depth}
+use Rattle.payload.specs.declared.Shape.{Shape}
+use Rattle.payload.specs.declared.Shape.the-variants.{Set, Array}
 use Rattle.payload.specs.Fits.{Fits, isSet, child}
 use Rattle.payload.specs.Text.{comma, colon, opens, closes}
 use Rattle.payload.specs.Reading.{Single, plain, group, numberFor, before}
@@ -24,7 +26,7 @@ use Rattle.text.specs.Tokens.{Token, aSign, aString, space}
 use Rattle.text.specs.Spells.{Spells, tokenOf, labelTokens, tokensOf, rootTokens}
 use Rattle.text.specs.Scanning.{past}
 use Rattle.text.specs.Values.{isSign, formFor}
-use Rattle.text.specs.Writing.{memberAt, run, insideOf, rootAt, treeOf}
+use Rattle.text.specs.Writing.{partedAt, memberAt, run, insideOf, rootAt, treeOf}
 use Rattle.text.proofs.Told.{Sound, group-kind, inside}
 use Rattle.text.proofs.Cutting.{Clean, blank-all, past-run, past-most}
 use Rattle.text.proofs.Spacing.{Signed, Loose, loose-signed, next-complete}
@@ -37,18 +39,18 @@ Filled (scalar n x rest) = Unit {0}
 Filled (inner n g kids rest) = Unit {0}
 
 close-comma : (g : Shape) → eqb (closes g) comma ≡ false
-close-comma aSet = refl
-close-comma anArray = refl
+close-comma Set = refl
+close-comma Array = refl
 
 close-close : (g : Shape) → eqb (closes g) (closes g) ≡ true
-close-close aSet = refl
-close-close anArray = refl
+close-close Set = refl
+close-close Array = refl
 
 open-close : (a g : Shape) → eqb (opens a) (closes g) ≡ false
-open-close aSet aSet = refl
-open-close aSet anArray = refl
-open-close anArray aSet = refl
-open-close anArray anArray = refl
+open-close Set Set = refl
+open-close Set Array = refl
+open-close Array Set = refl
+open-close Array Array = refl
 
 module _ (d : List ℕ) where
   -- the tokens of members, without the comma before the first
@@ -78,13 +80,13 @@ module _ (d : List ℕ) where
 
 module _ (d s : List ℕ) (member : Shape → ℕ → ℕ → List ℕ → ℕ → Judged Single) (g : Shape) (row k i : ℕ) (seen : List ℕ) (p : ℕ) (x : Single) (r : List Token) where
   last-member : Arrived s (member g row i seen p) x (aSign (closes g) ∷ r) (suc p) → Arrived s (run d s member g row (suc k) i seen p) (before x none) r (suc p)
-  unfolding run
+  unfolding run partedAt
   last-member a =
       let o = next-complete s (a .place) (aSign (closes g)) r (closes-sign g) tt (a .rest) in
       record { place = o .0; is = rw (a .is, o .1 .is, close-comma g, close-close g); rest = o .1 .rest; further = omega (arith, a .further, o .1 .further); within = o .1 .within }
 
   more-members : (rest : Tuples) (ks : List Token) → Arrived s (member g row i seen p) x (aSign comma ∷ ks) (suc p) → ((q : ℕ) → p < q → q ≤ length s → Spells ks (drop q s) → Arrived s (run d s member g row k (suc i) (numberFor x ∷ seen) q) rest r (suc q)) → Arrived s (run d s member g row (suc k) i seen p) (before x rest) r (suc p)
-  unfolding run
+  unfolding run partedAt
   more-members rest ks a rec =
       let o = next-complete s (a .place) (aSign comma) ks comma-sign tt (a .rest) in
       let c = rec (o .0) (omega (arith, a .further, o .1 .further)) (o .1 .within) (o .1 .rest) in
@@ -219,9 +221,9 @@ module _ (d s : List ℕ) (ok : accepts d ≡ true) where
   unfolding rootAt formFor
   root-complete t y f v m =
       let z = accepted-header d ok in
-      let o = next-complete s 0 (aSign (opens aSet)) (tokensOf d t 0 0 ++ (aSign (closes aSet) ∷ [])) (opens-sign aSet) tt y in
-      let c = inside-complete 15 t aSet 0 (past space s 0) (o .0) [] (omega (arith, z .some)) (z .root) v f (o .1 .within) (o .1 .rest)
-      (λ x q b u y. run-complete t 15 aSet 0 (length s) 0 [] q [] x (omega (arith, z .some)) (z .root) v f (omega arith) u (omega arith) y) in
+      let o = next-complete s 0 (aSign (opens Set)) (tokensOf d t 0 0 ++ (aSign (closes Set) ∷ [])) (opens-sign Set) tt y in
+      let c = inside-complete (depthMost - 1) t Set 0 (past space s 0) (o .0) [] (omega (arith, z .some)) (z .root) v f (o .1 .within) (o .1 .rest)
+      (λ x q b u y. run-complete t (depthMost - 1) Set 0 (length s) 0 [] q [] x (omega (arith, z .some)) (z .root) v f (omega arith) u (omega arith) y) in
       record { place = c .place; is = rw (o .1 .is) (c .is); rest = c .rest; further = omega arith; within = c .within }
 
   pub tree-complete : (t : Tuples) → Spells (rootTokens d t) s → Fits d t 0 0 [] → Sound t → suc (depth t) ≤ depthMost → (q : ℕ) × (treeOf d s ≡ good q 0 t)

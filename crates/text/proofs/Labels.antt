@@ -13,13 +13,15 @@ use native.Mathlib.Omega.{arith}
 use lib.ListN.{length, getD}
 use lib.Dec.{leb, eqb}
 use borrow.Author.Tests.{eq-eqb, ne-eqb, eqb-false, not-true}
-use Rattle.terms.proofs.Tests.{and-left, and-right}
+use Rattle.paper.proofs.Tests.{and-left, and-right}
 use Rattle.dictionary.specs.Formats.{setForm}
 use Rattle.dictionary.specs.Rows.{entries, kind, firstChild, childCount, name}
 use Rattle.dictionary.specs.Accepts.{nameByte, accepts}
 use Rattle.dictionary.specs.Given.{parent, Family, Members}
 use Rattle.dictionary.proofs.Laws.{accepted-name, accepted-family, accepted-members, sibling}
-use Rattle.payload.specs.Tree.{Shape, aSet, anArray, shapeFormat}
+use Rattle.payload.specs.Tree.{shapeFormat}
+use Rattle.payload.specs.declared.Shape.{Shape}
+use Rattle.payload.specs.declared.Shape.the-variants.{Set, Array}
 use Rattle.payload.specs.Strings.{stringByte, wellSpelt}
 use Rattle.payload.specs.Fits.{known, child}
 use Rattle.payload.specs.Text.{quote, colon, quoted, label, closes}
@@ -65,9 +67,9 @@ module _ (d : List ℕ) (row n : ℕ) where
   unfolding label
   label-array k = rw (ne-eqb (kind d row) 0 k)
 
-  pub label-closes : (g : Shape) (x y : List ℕ) → kind d row ≡ shapeFormat g → label d row n ++ x ≡ closes g ∷ y → x ≡ closes anArray ∷ y
-  label-closes aSet x y k e = absurd (let z = head-eq-of-cons-eq (ap (λ (l : List ℕ). l ++ x) (sym (label-set k)) ∙ e) in omega (arith, z))
-  label-closes anArray x y k e = ap (λ (l : List ℕ). l ++ x) (sym (label-array (λ z. omega (arith, sym k ∙ z)))) ∙ e
+  pub label-closes : (g : Shape) (x y : List ℕ) → kind d row ≡ shapeFormat g → label d row n ++ x ≡ closes g ∷ y → x ≡ closes Array ∷ y
+  label-closes Set x y k e = absurd (let z = head-eq-of-cons-eq (ap (λ (l : List ℕ). l ++ x) (sym (label-set k)) ∙ e) in omega (arith, z))
+  label-closes Array x y k e = ap (λ (l : List ℕ). l ++ x) (sym (label-array (λ z. omega (arith, sym k ∙ z)))) ∙ e
 
 pub set-parent : (d : List ℕ) (row : ℕ) → kind d row ≡ setForm → parent d row ≡ true
 unfolding parent
@@ -86,7 +88,7 @@ module _ (d : List ℕ) (ok : accepts d ≡ true) where
       (sibling d row p q m h g (r .0), r .1)
 
   pub labels : (g : Shape) (row i n m : ℕ) (x y : List ℕ) → row < entries d → kind d row ≡ shapeFormat g → known d row i n ≡ true → known d row i m ≡ true → label d row n ++ x ≡ label d row m ++ y → (n ≡ m) × (x ≡ y)
-  labels aSet row i n m x y h k a b e =
+  labels Set row i n m x y h k a b e =
       let w = accepted-family d ok row h (set-parent d row k) in
       let s = accepted-members d ok row h (λ z. omega (arith, sym k ∙ z)) (set-parent d row k) in
       let p = known-set d row w n k i .0 a in
@@ -98,7 +100,7 @@ module _ (d : List ℕ) (ok : accepts d ≡ true) where
       at n x w p =
           ap (λ (l : List ℕ). l ++ x) (label-set d row n k) ∙ append-assoc (quoted (name d (child d row n))) (colon ∷ []) x
           ∙ ap (λ (c : ℕ). quoted (name d c) ++ (colon ∷ x)) (child-set d row w n k p)
-  labels anArray row i n m x y h k a b e =
+  labels Array row i n m x y h k a b e =
       let z : kind d row ≡ setForm → ⊥ = λ z. omega (arith, sym k ∙ z) in (
         known-array d row n z i .0 a ∙ sym (known-array d row m z i .0 b),
         ap (λ (l : List ℕ). l ++ x) (sym (label-array d row n z)) ∙ e ∙ ap (λ (l : List ℕ). l ++ y) (label-array d row m z),

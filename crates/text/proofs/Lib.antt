@@ -1,4 +1,5 @@
 -- The laws of the text.
+pub mod Answers
 pub mod Shortest
 pub mod Labels
 pub mod Words
@@ -13,3 +14,12 @@ pub mod Valuing
 pub mod Hearing
 pub mod Trusting
 pub mod Exactly
+pub mod Moving
+pub mod Leading
+pub mod Breaking
+pub mod Turning
+pub mod Reaching
+pub mod Fronting
+pub mod Given
+pub mod Meant
+pub mod Counting

@@ -9,14 +9,16 @@ use mathlib.Core.Bool.{true}
 use Prim.Native.Nat.{ℕ, suc, _+_, _*_, _^_, _<_, _≤_}
 use native.Mathlib.Omega.{arith}
 use lib.ListN.{length, length-append}
-use Rattle.terms.specs.Limits.{payloadMost}
+use Rattle.paper.specs.Limits.{dictionaryMost, payloadMost}
 use Rattle.numbers.specs.Number.{Number, numberOf}
 use Rattle.numbers.proofs.Numbers.{number-written, number-some}
 use Rattle.numbers.proofs.Integers.{brief-says, brief-size, brief-bytes}
 use Rattle.dictionary.specs.Rows.{entries, kind}
 use Rattle.dictionary.specs.Accepts.{accepts}
 use Rattle.dictionary.proofs.Laws.{accepted-header, accepted-family}
-use Rattle.payload.specs.Tree.{Scalar, null, integer, option, string, boolean, Shape, aSet, anArray, Tuples, none, scalar, inner, formatOf, shapeFormat, size}
+use Rattle.payload.specs.Tree.{Scalar, null, integer, option, string, boolean, Tuples, none, scalar, inner, formatOf, shapeFormat, size}
+use Rattle.payload.specs.declared.Shape.{Shape}
+use Rattle.payload.specs.declared.Shape.the-variants.{Set, Array}
 use Rattle.payload.specs.Writes.{Cut, Tuple, Holds, Writes, Payload}
 use Rattle.payload.specs.Fits.{Fits, child, fits, allowed, known}
 use Rattle.payload.proofs.Sitting.{known-set, known-array}
@@ -33,7 +35,7 @@ unfolding tupleOf
 tuple-long n f v =
     omega (arith, length-append (numberOf (2 * n)) (formByte f ∷ (numberOf (length v) ++ v)), length-append (numberOf (length v)) v, number-some (2 * n), number-some (length v))
 
-pub tuple-written : (n f : ℕ) (P : List ℕ → Type 0) (v : List ℕ) → n ≤ 65536 → f < 16 → length v < 2 ^ 32 → P v → Tuple n f P (tupleOf n f v)
+pub tuple-written : (n f : ℕ) (P : List ℕ → Type 0) (v : List ℕ) → n ≤ 2 ^ 30 → f < 16 → length v < 2 ^ 32 → P v → Tuple n f P (tupleOf n f v)
 unfolding tupleOf
 tuple-written n f P v hn hf hv h =
     record {
@@ -61,7 +63,7 @@ size-few (inner n g kids rest) =
     omega (arith, size-few rest, tuple-long n (shapeFormat g) v, length-append (tupleOf n (shapeFormat g) v) (shortest rest))
 
 module _ (d : List ℕ) (ok : accepts d ≡ true) where
-  entries-few : entries d ≤ 65535
+  entries-few : entries d ≤ dictionaryMost
   entries-few = let z = accepted-header d ok in omega (arith, z .inside, z .most)
 
   pub value-written : (row : ℕ) (x : Scalar) → row < entries d → fits d row (formatOf x) ≡ true → allowed d row x ≡ true → Proper x → Holds x (valueBytes x)
@@ -71,13 +73,13 @@ module _ (d : List ℕ) (ok : accepts d ≡ true) where
   value-written row (string t) h f a p = record { whole = refl; bytes = p }
   value-written row (boolean b) h f a p = refl
 
-  number-few : (g : Shape) (row i n : ℕ) → row < entries d → kind d row ≡ shapeFormat g → known d row i n ≡ true → i ≤ 65536 → n ≤ 65536
-  number-few aSet row i n h k e l =
+  number-few : (g : Shape) (row i n : ℕ) → row < entries d → kind d row ≡ shapeFormat g → known d row i n ≡ true → i ≤ 2 ^ 30 → n ≤ 2 ^ 30
+  number-few Set row i n h k e l =
       let w = accepted-family d ok row h (set-parent d row k) in
       omega (arith, known-set d row w n k i .0 e, w .within, entries-few)
-  number-few anArray row i n h k e l = omega (arith, known-array d row n (λ z. omega (arith, sym k ∙ z)) i .0 e)
+  number-few Array row i n h k e l = omega (arith, known-array d row n (λ z. omega (arith, sym k ∙ z)) i .0 e)
 
-  pub writes-of : (t : Tuples) (g : Shape) (row i : ℕ) (seen : List ℕ) → row < entries d → kind d row ≡ shapeFormat g → Sound t → Fits d t row i seen → i + length (shortest t) ≤ 65536 → Writes t (shortest t)
+  pub writes-of : (t : Tuples) (g : Shape) (row i : ℕ) (seen : List ℕ) → row < entries d → kind d row ≡ shapeFormat g → Sound t → Fits d t row i seen → i + length (shortest t) ≤ 2 ^ 30 → Writes t (shortest t)
   unfolding Writes shortest Sound Fits
   writes-of none g row i seen h k p f l = refl
   writes-of (scalar n x rest) g row i seen h k p f l =
@@ -119,21 +121,21 @@ module _ (d : List ℕ) (ok : accepts d ≡ true) where
   payload-of t p f l =
       let y = accepted-header d ok in
       let v = numberOf (size t) ++ shortest t in
-      let z = tuple-long 0 (shapeFormat aSet) v in
+      let z = tuple-long 0 (shapeFormat Set) v in
       let m = length-append (numberOf (size t)) (shortest t) in
       record {
         flag = 0;
         flag′ = 0;
         flags = (omega arith, (omega arith, tt));
-        body = tupleOf 0 (shapeFormat aSet) v;
+        body = tupleOf 0 (shapeFormat Set) v;
         whole = refl;
         root =
-            tuple-written 0 (shapeFormat aSet) (Cut (Number (size t)) (Writes t)) v (omega arith) (omega arith) (omega (arith, z))
+            tuple-written 0 (shapeFormat Set) (Cut (Number (size t)) (Writes t)) v (omega arith) (omega arith) (omega (arith, z))
             (record {
               front = numberOf (size t);
               back = shortest t;
               whole = refl;
               here = number-written (size t) (omega (arith, size-few t, z, m));
-              rest = writes-of t aSet 0 0 [] (omega (arith, y .some)) (y .root) p f (omega (arith, z, m));
+              rest = writes-of t Set 0 0 [] (omega (arith, y .some)) (y .root) p f (omega (arith, z, m));
             });
       }

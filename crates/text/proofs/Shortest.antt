@@ -15,8 +15,9 @@ use Rattle.numbers.specs.Number.{Number, numberOf}
 use Rattle.numbers.specs.Integer.{Held, briefOf}
 use Rattle.numbers.proofs.Numbers.{number-below, number-written, number-least, number-shortest}
 use Rattle.numbers.proofs.Integers.{brief-says, brief-size, brief-bytes, brief-shortest, says-held}
-use Rattle.payload.specs.Tree.{Scalar, null, integer, option, string, boolean, aSet, Tuples, none, scalar, inner, formatOf, shapeFormat, size}
-use Rattle.payload.specs.Writes.{Cut, Format, Sized, Tuple, Whole, Holds, Writes, Payload}
+use Rattle.payload.specs.Tree.{Scalar, null, integer, option, string, boolean, Tuples, none, scalar, inner, formatOf, shapeFormat, size}
+use Rattle.payload.specs.declared.Shape.the-variants.{Set}
+use Rattle.payload.specs.Writes.{Cut, Format, Sized, Tuple, TwosComplement, Holds, Writes, Payload}
 use Rattle.payload.specs.Text.{Means}
 use Rattle.text.specs.Shortest.{formByte, tupleOf, valueBytes, shortest, payloadOf}
 
@@ -27,7 +28,7 @@ pub record Brief (P : List ℕ → Type 0) (m b : List ℕ) : Type 0 where
 number-brief : {n : ℕ} {b : List ℕ} → Number n b → Brief (Number n) (numberOf n) b
 number-brief t = let r = number-shortest t in record { written = r .written; least = r .least }
 
-integer-brief : (i : Integer) (v : List ℕ) → Whole i v → Brief (Whole i) (briefOf i) v
+integer-brief : (i : Integer) (v : List ℕ) → TwosComplement i v → Brief (TwosComplement i) (briefOf i) v
 integer-brief i v w =
     let h : Held i = rw (w .says) at (says-held v (w .bytes) (w .least) (w .most)) in
     let z = brief-size i h in
@@ -93,9 +94,9 @@ unfolding payloadOf
 payload-shortest t b p =
     let c = p .root .rest .rest .here in
     let v = numberOf (size t) ++ shortest t in
-    let r = tuple-brief 0 (shapeFormat aSet) v (p .root) (counted-brief t c (writes-shortest t (c .back) (c .rest))) in
+    let r = tuple-brief 0 (shapeFormat Set) v (p .root) (counted-brief t c (writes-shortest t (c .back) (c .rest))) in
     record {
-      written = record { flag = 0; flag′ = 0; flags = (omega arith, (omega arith, tt)); body = tupleOf 0 (shapeFormat aSet) v; whole = refl; root = r .written };
+      written = record { flag = 0; flag′ = 0; flags = (omega arith, (omega arith, tt)); body = tupleOf 0 (shapeFormat Set) v; whole = refl; root = r .written };
       least = omega (arith, r .least, ap length (p .whole));
     }
 

@@ -11,8 +11,8 @@ use Prim.Native.Nat.{ℕ, _+_, _<_, _≤_}
 use native.Mathlib.Omega.{arith}
 use lib.ListN.{length, drop}
 use lib.Seq.{slice}
-use Rattle.terms.specs.Checks.{good}
-use Rattle.terms.proofs.Tests.{and-left}
+use Rattle.paper.specs.Checks.{good}
+use Rattle.paper.proofs.Tests.{and-left}
 use Rattle.payload.proofs.Lying.{lies-end, drop-past}
 use Rattle.text.specs.Tokens.{Token, aSign, aString, aNull, aBoolean, anInteger, aReal, spelt, space, sign, wordByte}
 use Rattle.text.specs.Scanning.{past, tokenAt}

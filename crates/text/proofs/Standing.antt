@@ -11,11 +11,11 @@ use lib.ListN.{length, drop, length-append, length-drop}
 use lib.Seq.{slice}
 use lib.Dec.{leb, eqb}
 use borrow.Author.Tests.{eqb-true, lt-leb, leb-false}
-use Rattle.terms.specs.Refusals.{badText}
-use Rattle.terms.specs.Checks.{choose, good, need}
-use Rattle.terms.specs.Tests.{same}
-use Rattle.terms.proofs.Tests.{so-not, same-true, same-ne}
-use Rattle.terms.proofs.Checks.{same-place, same-thing, passed, needed}
+use Rattle.paper.specs.Refusals.{badText}
+use Rattle.paper.specs.Checks.{choose, good, need}
+use Rattle.paper.specs.Tests.{same}
+use Rattle.paper.proofs.Tests.{so-not, same-true, same-ne}
+use Rattle.paper.proofs.Checks.{same-place, same-thing, passed, needed}
 use Rattle.numbers.specs.Bytes.{byte}
 use Rattle.numbers.specs.Decimal.{plain, integral}
 use Rattle.numbers.proofs.Places.{first, slice-is}
@@ -26,7 +26,7 @@ use Rattle.payload.specs.Lying.{Lies}
 use Rattle.payload.proofs.Lying.{drop-past, one, join}
 use Rattle.text.specs.Tokens.{Token, aSign, aString, aNull, aBoolean, anInteger, aReal, spelt, sign, wordByte}
 use Rattle.text.specs.Numerals.{numeral}
-use Rattle.text.specs.Scanning.{past, stringAt, wordAt, tokenAt}
+use Rattle.text.specs.Scanning.{past, stringAt, numeralAt, wordAt, tokenAt}
 use Rattle.text.proofs.Cutting.{AllOf, Halts, integral-word, spelt-all, all-spelt, word-no-sign, word-no-quote, past-run, past-all, past-lies, drop-inside, Clean, Ends, null-word, true-word, false-word}
 
 -- the token k stands at p, up to q, before x
@@ -80,11 +80,11 @@ integral-not : (w v : List ℕ) → integral v ≡ false → integral w ≡ true
 integral-not w v f e = same-ne w v (λ z. so-not (integral v) f (ap integral (sym z) ∙ e))
 
 integer-word : (w : List ℕ) (p q : ℕ) → integral w ≡ true → wordAt w p q ≡ good q 0 (anInteger w)
-unfolding wordAt integral plain
+unfolding wordAt numeralAt integral plain
 integer-word w p q e = rw (integral-not w nullText refl e, integral-not w trueText refl e, integral-not w falseText refl e, e)
 
 pub token-complete : (s : List ℕ) (p : ℕ) (k : Token) (x : List ℕ) → Clean k → Ends k x → drop p s ≡ spelt k ++ x → (q : ℕ) × Stands s p q k x
-unfolding wordAt same integral
+unfolding wordAt numeralAt same integral
 token-complete s p (aSign b) x h g e = (p + 1, sign-stands s p b x h e)
 token-complete s p (aString t) x h g e = (p + 1 + length t + 1, string-stands s p t x (spelt-all t h) e)
 token-complete s p aNull x h g e = (p + 4, word-stands s p 110 (117 ∷ 108 ∷ 108 ∷ []) x aNull null-word g refl e)
@@ -112,7 +112,7 @@ module _ (s : List ℕ) (p : ℕ) where
   off-recast e y = let a = same-place e in let b = same-thing e in rw (a, b) at y
 
   word-off : (w : List ℕ) (q q' l : ℕ) (k : Token) → Lies s w p q → wordAt w p q ≡ good q' l k → Cut-off s p q' k
-  unfolding wordAt
+  unfolding wordAt numeralAt
   word-off w q q' l k y = go (same w nullText) (same w trueText) (same w falseText) (integral w) refl refl refl refl
     where
       whole : (v : List ℕ) → same w v ≡ true → Lies s v p q

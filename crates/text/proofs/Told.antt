@@ -15,7 +15,9 @@ use Rattle.numbers.proofs.Decimals.{Stop}
 use Rattle.dictionary.specs.Rows.{entries, kind}
 use Rattle.dictionary.specs.Accepts.{accepts}
 use Rattle.dictionary.proofs.Laws.{accepted-header}
-use Rattle.payload.specs.Tree.{Scalar, Shape, aSet, anArray, Tuples, none, scalar, inner, shapeFormat}
+use Rattle.payload.specs.Tree.{Scalar, Tuples, none, scalar, inner, shapeFormat}
+use Rattle.payload.specs.declared.Shape.{Shape}
+use Rattle.payload.specs.declared.Shape.the-variants.{Set, Array}
 use Rattle.payload.specs.Writes.{Writes, Payload}
 use Rattle.payload.specs.Fits.{Fits, child, fits, known}
 use Rattle.payload.specs.Text.{comma, opens, closes, word, commaAt, textOf, rootText, rootCount, Means}
@@ -46,12 +48,12 @@ pub payload-sound : (t : Tuples) (b : List ℕ) → Payload t b → Sound t
 payload-sound t b p = let c = p .root .rest .rest .here in writes-sound t (c .back) (c .rest)
 
 not-comma : (g : Shape) → closes g ≡ comma → ⊥
-not-comma aSet e = omega arith
-not-comma anArray e = omega arith
+not-comma Set e = omega arith
+not-comma Array e = omega arith
 
-not-open : (g : Shape) → opens g ≡ closes anArray → ⊥
-not-open aSet e = omega arith
-not-open anArray e = omega arith
+not-open : (g : Shape) → opens g ≡ closes Array → ⊥
+not-open Set e = omega arith
+not-open Array e = omega arith
 
 module _ (d : List ℕ) where
   -- the format of a group that fits a row is the row's
@@ -59,13 +61,13 @@ module _ (d : List ℕ) where
   group-kind row g f = sym (fits-own d row (shapeFormat g) (λ z. omega (arith, z, shape-low g)) .0 f)
 
   no-bracket : (row : ℕ) (x : Scalar) (g : Shape) (c y : List ℕ) → Proper x → word d row x ++ c ≡ opens g ∷ y → ⊥
-  no-bracket row x aSet c y p e = omega (arith, (word-first d row x c y 123 p e) .under)
-  no-bracket row x anArray c y p e = (word-first d row x c y 91 p e) .square (omega arith) (omega arith)
+  no-bracket row x Set c y p e = omega (arith, (word-first d row x c y (opens Set) p e) .under)
+  no-bracket row x Array c y p e = (word-first d row x c y (opens Array) p e) .square (omega arith) (omega arith)
 
   stop-run : (t : Tuples) (g : Shape) (row i : ℕ) (x : List ℕ) → Stop (textOf d t row (suc i) ++ (closes g ∷ x))
   unfolding textOf
-  stop-run none aSet row i x = refl
-  stop-run none anArray row i x = refl
+  stop-run none Set row i x = refl
+  stop-run none Array row i x = refl
   stop-run (scalar n v rest) g row i x = refl
   stop-run (inner n h kids rest) g row i x = refl
 
@@ -74,7 +76,7 @@ module _ (d : List ℕ) where
   unfolding textOf
   ended-scalar n v rest g row zero x y k p e =
       let z = label-closes d row n g _ x k (sym (simp append-assoc at e)) in
-      absurd ((word-first d (child d row n) v _ x 93 p z) .square (omega arith) (omega arith))
+      absurd ((word-first d (child d row n) v _ x (closes Array) p z) .square (omega arith) (omega arith))
   ended-scalar n v rest g row (suc i) x y k p e = absurd (not-comma g (head-eq-of-cons-eq e))
 
   ended-inner : (n : ℕ) (h : Shape) (kids rest : Tuples) (g : Shape) (row i : ℕ) (x y : List ℕ) {A : Type 0} → kind d row ≡ shapeFormat g → closes g ∷ x ≡ textOf d (inner n h kids rest) row i ++ y → A
@@ -124,7 +126,7 @@ module _ (d : List ℕ) (ok : accepts d ≡ true) where
   pub sound-unique : (t u : Tuples) → Fits d t 0 0 [] → Fits d u 0 0 [] → Sound t → Sound u → rootText d t ≡ rootText d u → t ≡ u
   sound-unique t u f g p q e =
       let h = accepted-header d ok in
-      (runs t u aSet 0 0 [] [] [] (omega (arith, h .some)) (h .root) p q f g (tail-eq-of-cons-eq e)) .0
+      (runs t u Set 0 0 [] [] [] (omega (arith, h .some)) (h .root) p q f g (tail-eq-of-cons-eq e)) .0
 
   pub text-unique : (t u : Tuples) (b c : List ℕ) → Fits d t 0 0 [] → Fits d u 0 0 [] → Payload t b → Payload u c → rootText d t ≡ rootText d u → t ≡ u
   text-unique t u b c f g p q e = sound-unique t u f g (payload-sound t b p) (payload-sound u c q) e

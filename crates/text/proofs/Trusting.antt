@@ -14,11 +14,11 @@ use lib.ListN.{length, drop, length-drop}
 use lib.Seq.{slice}
 use lib.Dec.{eqb, leb}
 use borrow.Author.Tests.{eqb-true, eq-eqb, ne-eqb, leb-true}
-use Rattle.terms.specs.Limits.{depthMost}
-use Rattle.terms.specs.Refusals.{badText}
-use Rattle.terms.specs.Checks.{choose, good, need, after}
-use Rattle.terms.proofs.Tests.{and-left, and-right, and-both}
-use Rattle.terms.proofs.Checks.{never, same-place, same-thing, passed, needed, followed}
+use Rattle.paper.specs.Limits.{depthMost}
+use Rattle.paper.specs.Refusals.{accepted, notInBase, misfit, badText}
+use Rattle.paper.specs.Checks.{choose, good, need, after}
+use Rattle.paper.proofs.Tests.{and-left, and-right, and-both}
+use Rattle.paper.proofs.Checks.{never, same-place, same-thing, passed, needed, followed}
 use Rattle.numbers.specs.declared.Said.{Said}
 use Rattle.numbers.specs.declared.Said.the-variants.{Wrong, Is}
 use Rattle.numbers.specs.Decimal.{integral, integerSaid}
@@ -30,7 +30,9 @@ use Rattle.dictionary.specs.Rows.{entries, kind, name, numberIn}
 use Rattle.dictionary.specs.Children.{childNamed}
 use Rattle.dictionary.specs.Accepts.{accepts}
 use Rattle.dictionary.proofs.Laws.{accepted-header, accepted-family, enum-parent, named-child}
-use Rattle.payload.specs.Tree.{Scalar, null, integer, option, string, boolean, Shape, aSet, anArray, Tuples, none, formatOf, shapeFormat, depth}
+use Rattle.payload.specs.Tree.{Scalar, null, integer, option, string, boolean, Tuples, none, formatOf, shapeFormat, depth}
+use Rattle.payload.specs.declared.Shape.{Shape}
+use Rattle.payload.specs.declared.Shape.the-variants.{Set, Array}
 use Rattle.payload.specs.Strings.{wellSpelt}
 use Rattle.payload.specs.Fits.{found, rowOf, known, child, fresh, fits, allowed, Fits}
 use Rattle.payload.specs.Text.{comma, colon, opens, closes}
@@ -40,8 +42,8 @@ use Rattle.payload.proofs.Sound.{depthOne, FitsOne, depth-before, fits-before}
 use Rattle.text.specs.Tokens.{Token, aSign, aString, aNull, aBoolean, anInteger, aReal, space}
 use Rattle.text.specs.Spells.{blank, Spells, tokenOf, labelTokens, tokensOf, rootTokens}
 use Rattle.text.specs.Scanning.{past, tokenAt}
-use Rattle.text.specs.Values.{isSign, begins, inBase, isEnum, formFor, integerFor, optionFor, scalarFor}
-use Rattle.text.specs.Writing.{nameFor, keyFor, keyAt, bodyAt, valueAt, memberAt, run, insideOf, rootAt, treeOf}
+use Rattle.text.specs.Values.{isSign, begins, inBase, isEnum, formFor, misfitFor, integerFor, optionFor, scalarFor}
+use Rattle.text.specs.Writing.{childFor, nameFor, nameAt, colonAt, partedAt, keyAt, bodyAt, valueAt, memberAt, run, insideOf, rootAt, treeOf}
 use Rattle.text.proofs.Labels.{set-parent}
 use Rattle.text.proofs.Words.{Proper}
 use Rattle.text.proofs.Told.{Sound, group-kind, inside}
@@ -60,11 +62,11 @@ is-sign c (anInteger w) e = absurd (true≢false (sym e))
 is-sign c (aReal w) e = absurd (true≢false (sym e))
 
 sign-begins : (b : ℕ) → begins (aSign b) ≡ true → (g : Shape) × (b ≡ opens g)
-sign-begins b e = go (eqb b 123) (eqb b 91) refl refl e
+sign-begins b e = go (eqb b (opens Set)) (eqb b (opens Array)) refl refl e
   where
-    go : (x y : Bool) → eqb b 123 ≡ x → eqb b 91 ≡ y → x || y ≡ true → (g : Shape) × (b ≡ opens g)
-    go true y f h e = (aSet, eqb-true b 123 f)
-    go false true f h e = (anArray, eqb-true b 91 h)
+    go : (x y : Bool) → eqb b (opens Set) ≡ x → eqb b (opens Array) ≡ y → x || y ≡ true → (g : Shape) × (b ≡ opens g)
+    go true y f h e = (Set, eqb-true b (opens Set) f)
+    go false true f h e = (Array, eqb-true b (opens Array) h)
     go false false f h e = absurd (true≢false (sym e))
 
 blank-append : (a b : List ℕ) → blank a ≡ true → blank b ≡ true → blank (a ++ b) ≡ true
@@ -95,6 +97,17 @@ label-none : (d : List ℕ) (row n : ℕ) → (kind d row ≡ setForm → ⊥) �
 unfolding labelTokens
 label-none d row n z = rw (ne-eqb (kind d row) 0 z)
 
+-- a format that is no misfit is not a real's, and fits
+fits-if : (d : List ℕ) (row f : ℕ) → misfitFor d row f ≡ accepted → (eqb f realForm ≡ false) × (fits d row f ≡ true)
+unfolding misfitFor
+fits-if d row f e = go (eqb f realForm) (not (inBase d row) && not (eqb f nullForm)) (fits d row f) e
+  where
+    go : (a b c : Bool) → _≡_ {A = ℕ} (choose a (λ _. notInBase) λ _. choose b (λ _. notInBase) λ _. choose c (λ _. accepted) (λ _. misfit)) accepted → (a ≡ false) × (c ≡ true)
+    go true b c x = absurd (omega (arith, x))
+    go false true c x = absurd (omega (arith, x))
+    go false false true x = (refl, refl)
+    go false false false x = absurd (omega (arith, x))
+
 module _ (d s : List ℕ) (ok : accepts d ≡ true) where
   pub record Keyed (row i : ℕ) (seen : List ℕ) (p q n : ℕ) : Type 0 where
     pub reach : Reach s (labelTokens d row n) p q
@@ -116,43 +129,66 @@ module _ (d s : List ℕ) (ok : accepts d ≡ true) where
         label = rw (eq-eqb (kind d row) 0 k, o .2, o .1);
       }
 
-  key-string : (row i : ℕ) (seen t : List ℕ) (at q e l n : ℕ) → row < entries d → kind d row ≡ setForm → nameFor d s (aString t) row seen at q ≡ good e l n → (e ≡ q) × (labelTokens d row n ≡ aString t ∷ aSign colon ∷ []) × (known d row i n ≡ true) × (fresh d row seen n ≡ true)
-  key-string row i seen t at q e l n h k x = go (childNamed d row t) refl x
+  name-child : (row i : ℕ) (t : List ℕ) (at q e l n : ℕ) → row < entries d → kind d row ≡ setForm → nameFor d s (aString t) row at q ≡ good e l n → (e ≡ q) × (labelTokens d row n ≡ aString t ∷ aSign colon ∷ []) × (known d row i n ≡ true)
+  name-child row i t at q e l n h k x = go (childNamed d row t) refl x
     where
-      go : (c : Child) → childNamed d row t ≡ c → keyFor d s c row seen at q ≡ good e l n → (e ≡ q) × (labelTokens d row n ≡ aString t ∷ aSign colon ∷ []) × (known d row i n ≡ true) × (fresh d row seen n ≡ true)
+      go : (c : Child) → childNamed d row t ≡ c → childFor d s c at q ≡ good e l n → (e ≡ q) × (labelTokens d row n ≡ aString t ∷ aSign colon ∷ []) × (known d row i n ≡ true)
       go Nothing f x = never x
       go (At c) f x =
-          let a = needed e l n (fresh d row seen (numberIn d c)) _ _ _ x in
-          let z = same-thing (a .1) in
+          let z = same-thing x in
           let o = found-child row i c t h k f in
-          (sym (same-place (a .1)), rw z at (o .label), rw z at (o .knows), rw z at (a .0))
+          (sym (same-place x), rw z at (o .label), rw z at (o .knows))
 
-  key-named : (k : Token) (row i : ℕ) (seen : List ℕ) (at q e l n : ℕ) → row < entries d → kind d row ≡ setForm → nameFor d s k row seen at q ≡ good e l n → (e ≡ q) × (labelTokens d row n ≡ k ∷ aSign colon ∷ []) × (known d row i n ≡ true) × (fresh d row seen n ≡ true)
-  key-named (aSign b) row i seen at q e l n h f x = never x
-  key-named (aString t) row i seen at q e l n h f x = key-string row i seen t at q e l n h f x
-  key-named aNull row i seen at q e l n h f x = never x
-  key-named (aBoolean b) row i seen at q e l n h f x = never x
-  key-named (anInteger w) row i seen at q e l n h f x = never x
-  key-named (aReal w) row i seen at q e l n h f x = never x
+  name-string : (k : Token) (row i at q e l n : ℕ) → row < entries d → kind d row ≡ setForm → nameFor d s k row at q ≡ good e l n → (e ≡ q) × (labelTokens d row n ≡ k ∷ aSign colon ∷ []) × (known d row i n ≡ true)
+  name-string (aSign b) row i at q e l n h f x = never x
+  name-string (aString t) row i at q e l n h f x = name-child row i t at q e l n h f x
+  name-string aNull row i at q e l n h f x = never x
+  name-string (aBoolean b) row i at q e l n h f x = never x
+  name-string (anInteger w) row i at q e l n h f x = never x
+  name-string (aReal w) row i at q e l n h f x = never x
+
+  -- a name that was accepted, and a colon
+  record Named (row i p q n : ℕ) : Type 0 where
+    token : Token
+    reach : Reach s (token ∷ []) p q
+    label : labelTokens d row n ≡ token ∷ aSign colon ∷ []
+    knows : known d row i n ≡ true
+
+  name-sound : (row i p q l n : ℕ) → row < entries d → kind d row ≡ setForm → p ≤ length s → nameAt d s row (past space s p) ≡ good q l n → Named row i p q n
+  unfolding nameAt
+  name-sound row i p q l n h k b x =
+      let x₁ = followed q l n (tokenAt s (past space s p)) _ x in
+      let o = name-string (x₁ .2) row i (past space s p) (x₁ .0) q l n h k (x₁ .4) in
+      let f = sym (o .0) in
+      record { token = x₁ .2; reach = rw f at ((next-sound s p (x₁ .0) (x₁ .1) (x₁ .2) b (x₁ .3)) .1); label = o .1; knows = o .2 }
+
+  colon-sound : (p q l : ℕ) (u : Unit {0}) → p ≤ length s → colonAt s p ≡ good q l u → Reach s (aSign colon ∷ []) p q
+  unfolding colonAt
+  colon-sound p q l u b x =
+      let x₁ = followed q l u (tokenAt s (past space s p)) _ x in
+      let x₂ = needed q l u (isSign colon (x₁ .2)) _ _ _ (x₁ .4) in
+      let c = is-sign colon (x₁ .2) (x₂ .0) in
+      let z = same-place (x₂ .1) in
+      made (x₁ .0) (x₁ .2) c z ((next-sound s p (x₁ .0) (x₁ .1) (x₁ .2) b (x₁ .3)) .1)
+    where
+      made : (e : ℕ) (k : Token) → k ≡ aSign colon → e ≡ q → Reach s (k ∷ []) p e → Reach s (aSign colon ∷ []) p q
+      made e k c z r = rw (c, z) at r
 
   pub key-sound : (g : Shape) (row i : ℕ) (seen : List ℕ) (p q l n : ℕ) → row < entries d → kind d row ≡ shapeFormat g → p ≤ length s → keyAt d s g row i seen p ≡ good q l n → Keyed row i seen p q n
   unfolding keyAt
-  key-sound aSet row i seen p q l n h k b x =
-      let x₁ = followed q l n (tokenAt s (past space s p)) _ x in
-      let x₂ = followed q l n (nameFor d s (x₁ .2) row seen (past space s p) (x₁ .0)) _ (x₁ .4) in
-      let x₃ = followed q l n (tokenAt s (past space s (x₂ .0))) _ (x₂ .4) in
-      let x₄ = needed q l n (isSign colon (x₃ .2)) _ _ _ (x₃ .4) in
-      made (x₁ .0) (x₁ .1) (x₁ .2) (x₂ .0) (x₂ .2) (x₃ .0) (x₃ .1) (x₃ .2) (x₁ .3) (key-named (x₁ .2) row i seen (past space s p) (x₁ .0) (x₂ .0) (x₂ .1) (x₂ .2) h k (x₂ .3)) (x₃ .3) (is-sign colon (x₃ .2) (x₄ .0)) (same-place (x₄ .1)) (same-thing (x₄ .1))
+  key-sound Set row i seen p q l n h k b x =
+      let x₁ = followed q l n (nameAt d s row (past space s p)) _ x in
+      let x₂ = needed q l n (fresh d row seen (x₁ .2)) _ _ _ (x₁ .4) in
+      let x₃ = followed q l n (colonAt s (x₁ .0)) _ (x₂ .1) in
+      let o = name-sound row i p (x₁ .0) (x₁ .1) (x₁ .2) h k b (x₁ .3) in
+      made (x₁ .0) (x₁ .2) (x₃ .0) o (x₂ .0) (colon-sound (x₁ .0) (x₃ .0) (x₃ .1) (x₃ .2) (o .reach .within) (x₃ .3)) (same-place (x₃ .4)) (same-thing (x₃ .4))
     where
-      made : (q₁ l₁ : ℕ) (k₁ : Token) (q₂ m q₃ l₃ : ℕ) (k₃ : Token) → tokenAt s (past space s p) ≡ good q₁ l₁ k₁ → (q₂ ≡ q₁) × (labelTokens d row m ≡ k₁ ∷ aSign colon ∷ []) × (known d row i m ≡ true) × (fresh d row seen m ≡ true) → tokenAt s (past space s q₂) ≡ good q₃ l₃ k₃ → k₃ ≡ aSign colon → q₃ ≡ q → m ≡ n → Keyed row i seen p q n
-      made q₁ l₁ k₁ q₂ m q₃ l₃ k₃ e₁ o e₃ c z y =
-          let r₁ = (next-sound s p q₁ l₁ k₁ b e₁) .1 in
-          let f = o .0 in
-          let r₂ : Reach s (k₃ ∷ []) q₁ q₃ = rw f at ((next-sound s q₂ q₃ l₃ k₃ (omega (arith, r₁ .within)) e₃) .1) in
-          let r : Reach s (k₁ ∷ k₃ ∷ []) p q₃ = reach-join (k₁ ∷ []) (k₃ ∷ []) r₁ r₂ in
-          let g : labelTokens d row n ≡ k₁ ∷ aSign colon ∷ [] = rw y at (o .1) in
-          record { reach = rw g (rw (c, z) at r); is-known = rw y at (o .2); is-fresh = rw y at (o .3) }
-  key-sound anArray row i seen p q l n h k b x = array (λ z. omega (arith, sym k ∙ z)) (same-place x) (same-thing x)
+      made : (e m z : ℕ) → Named row i p e m → fresh d row seen m ≡ true → Reach s (aSign colon ∷ []) e z → z ≡ q → m ≡ n → Keyed row i seen p q n
+      made e m z o f r u v =
+          let w : Reach s (o .token ∷ aSign colon ∷ []) p q = reach-join (o .token ∷ []) (aSign colon ∷ []) (o .reach) (rw u at r) in
+          let g : labelTokens d row n ≡ o .token ∷ aSign colon ∷ [] = rw v at (o .label) in
+          record { reach = rw g w; is-known = rw v at (o .knows); is-fresh = rw v at f }
+  key-sound Array row i seen p q l n h k b x = array (λ z. omega (arith, sym k ∙ z)) (same-place x) (same-thing x)
     where
       none-label : (kind d row ≡ setForm → ⊥) → labelTokens d row n ≡ []
       none-label z = label-none d row n z
@@ -213,12 +249,12 @@ module _ (d s : List ℕ) (ok : accepts d ≡ true) where
 
       sign-meant : (g : Shape) (at q e l : ℕ) (x : Single) → Reach s (aSign (opens g) ∷ []) p q → fits d row (formFor d row (aSign (opens g))) ≡ true → bodyAt d s (insideOf d s room) n row (formFor d row (aSign (opens g))) at q (aSign (opens g)) ≡ good e l x → Meant room n row p e x
       unfolding formFor
-      sign-meant aSet at q e l x r f y =
-          let a = followed e l x (insideOf d s room aSet row at q) _ y in
-          meant-recast (a .4) (group-meant aSet (a .2) q (a .0) f r (H aSet row at q (a .0) (a .1) (a .2) hr (group-kind d row aSet f) (r .within) (a .3)))
-      sign-meant anArray at q e l x r f y =
-          let a = followed e l x (insideOf d s room anArray row at q) _ y in
-          meant-recast (a .4) (group-meant anArray (a .2) q (a .0) f r (H anArray row at q (a .0) (a .1) (a .2) hr (group-kind d row anArray f) (r .within) (a .3)))
+      sign-meant Set at q e l x r f y =
+          let a = followed e l x (insideOf d s room Set row at q) _ y in
+          meant-recast (a .4) (group-meant Set (a .2) q (a .0) f r (H Set row at q (a .0) (a .1) (a .2) hr (group-kind d row Set f) (r .within) (a .3)))
+      sign-meant Array at q e l x r f y =
+          let a = followed e l x (insideOf d s room Array row at q) _ y in
+          meant-recast (a .4) (group-meant Array (a .2) q (a .0) f r (H Array row at q (a .0) (a .1) (a .2) hr (group-kind d row Array f) (r .within) (a .3)))
 
       option-meant : (t : List ℕ) (c : Child) (at q e l : ℕ) (x : Single) → childNamed d row t ≡ c → Reach s (aString t ∷ []) p q → fits d row enumForm ≡ true → (value (optionFor d c) at λ x. good q 0 (plain n x)) ≡ good e l x → Meant room n row p e x
       option-meant t Nothing at q e l x m r f y = never y
@@ -260,11 +296,10 @@ module _ (d s : List ℕ) (ok : accepts d ≡ true) where
           let y₁ = followed e l x (tokenAt s (past space s p)) _ y in
           let k = y₁ .2 in
           let y₂ = needed e l x (begins k) _ _ _ (y₁ .4) in
-          let y₃ = passed e l x (eqb (formFor d row k) realForm) _ _ _ (y₂ .1) in
-          let y₄ = passed e l x (not (inBase d row) && not (eqb (formFor d row k) nullForm)) _ _ _ (y₃ .1) in
-          let y₅ = needed e l x (fits d row (formFor d row k)) _ _ _ (y₄ .1) in
+          let y₃ = needed e l x (eqb (misfitFor d row (formFor d row k)) accepted) _ _ _ (y₂ .1) in
+          let f = fits-if d row (formFor d row k) (eqb-true (misfitFor d row (formFor d row k)) accepted (y₃ .0)) in
           let o = next-sound s p (y₁ .0) (y₁ .1) k b (y₁ .3) in
-          body-sound k (past space s p) (y₁ .0) e l x (o .0) (o .1) (y₂ .0) (y₃ .0) (y₅ .0) (y₅ .1)
+          body-sound k (past space s p) (y₁ .0) e l x (o .0) (o .1) (y₂ .0) (f .0) (f .1) (y₃ .1)
 
     -- a member that was accepted
     pub record Stated (row i : ℕ) (seen : List ℕ) (p q : ℕ) (x : Single) : Type 0 where
@@ -349,27 +384,44 @@ module _ (d s : List ℕ) (ok : accepts d ≡ true) where
           shallow = omega (arith, depth-before x t, o .shallow, m .shallow);
         }
 
+    parted-sound : (p q l : ℕ) (more : Bool) → p ≤ length s → partedAt s g p ≡ good q l more → Reach s (aSign (choose more (λ _. comma) (λ _. closes g)) ∷ []) p q
+    unfolding partedAt
+    parted-sound p q l more b y =
+        let y₁ = followed q l more (tokenAt s (past space s p)) _ y in
+        go (y₁ .0) (y₁ .2) ((next-sound s p (y₁ .0) (y₁ .1) (y₁ .2) b (y₁ .3)) .1) (isSign comma (y₁ .2)) refl (y₁ .4)
+      where
+        go : (e : ℕ) (c : Token) → Reach s (c ∷ []) p e → (u : Bool) → isSign comma c ≡ u
+            → (choose u (λ _. good e 0 true) λ _. need (isSign (closes g) c) badText (past space s p) λ _. good e 0 false) ≡ good q l more
+            → Reach s (aSign (choose more (λ _. comma) (λ _. closes g)) ∷ []) p q
+        go e c r true w y =
+            let z = is-sign comma c w in
+            let m = sym (same-thing y) in
+            let i = same-place y in
+            rw m (rw (z, i) at r)
+        go e c r false w y =
+            let a = needed q l more (isSign (closes g) c) _ _ _ y in
+            let z = is-sign (closes g) c (a .0) in
+            let m = sym (same-thing (a .1)) in
+            let i = same-place (a .1) in
+            rw m (rw (z, i) at r)
+
     pub run-sound : (k i : ℕ) (seen : List ℕ) (p q l : ℕ) (t : Tuples) → p ≤ length s → run d s (memberAt d s (insideOf d s room)) g row k i seen p ≡ good q l t → Listed room g row i seen p q t
     unfolding run
     run-sound zero i seen p q l t b y = never y
     run-sound (suc k) i seen p q l t b y =
         let y₁ = followed q l t (memberAt d s (insideOf d s room) g row i seen p) _ y in
         let o = member-sound room H g row i seen p (y₁ .0) (y₁ .1) (y₁ .2) hr hk b (y₁ .3) in
-        let y₂ = followed q l t (tokenAt s (past space s (y₁ .0))) _ (y₁ .4) in
-        let r = next-sound s (y₁ .0) (y₂ .0) (y₂ .1) (y₂ .2) (o .reach .within) (y₂ .3) in
-        go (y₁ .0) (y₁ .2) (y₂ .0) (y₂ .2) o (r .1) (isSign comma (y₂ .2)) refl (λ z m t' h. run-sound k (suc i) (numberFor (y₁ .2) ∷ seen) (y₂ .0) z m t' (r .1 .within) h) (y₂ .4)
+        let y₂ = followed q l t (partedAt s g (y₁ .0)) _ (y₁ .4) in
+        let r = parted-sound (y₁ .0) (y₂ .0) (y₂ .1) (y₂ .2) (o .reach .within) (y₂ .3) in
+        go (y₁ .0) (y₁ .2) (y₂ .0) (y₂ .2) o r (λ z m t' h. run-sound k (suc i) (numberFor (y₁ .2) ∷ seen) (y₂ .0) z m t' (r .within) h) (y₂ .4)
       where
-        go : (e : ℕ) (x : Single) (f : ℕ) (c : Token) → Stated room H row i seen p e x → Reach s (c ∷ []) e f → (u : Bool) → isSign comma c ≡ u → ((z m : ℕ) (t' : Tuples) → run d s (memberAt d s (insideOf d s room)) g row k (suc i) (numberFor x ∷ seen) f ≡ good z m t' → Listed room g row (suc i) (numberFor x ∷ seen) f z t')
-            → (choose u (λ _. after (run d s (memberAt d s (insideOf d s room)) g row k (suc i) (numberFor x ∷ seen) f) λ z _ rest. good z 0 (before x rest)) λ _. need (isSign (closes g) c) badText (past space s e) λ _. good f 0 (before x none)) ≡ good q l t
+        go : (e : ℕ) (x : Single) (f : ℕ) (more : Bool) → Stated room H row i seen p e x → Reach s (aSign (choose more (λ _. comma) (λ _. closes g)) ∷ []) e f → ((z m : ℕ) (t' : Tuples) → run d s (memberAt d s (insideOf d s room)) g row k (suc i) (numberFor x ∷ seen) f ≡ good z m t' → Listed room g row (suc i) (numberFor x ∷ seen) f z t')
+            → (choose more (λ _. after (run d s (memberAt d s (insideOf d s room)) g row k (suc i) (numberFor x ∷ seen) f) λ z _ rest. good z 0 (before x rest)) λ _. good f 0 (before x none)) ≡ good q l t
             → Listed room g row i seen p q t
-        go e x f c o r true w rec y =
+        go e x f true o r rec y =
             let a = followed q l t (run d s (memberAt d s (insideOf d s room)) g row k (suc i) (numberFor x ∷ seen) f) _ y in
-            let z = is-sign comma c w in
-            listed-recast (a .4) (list-more i seen p e f (a .0) x (a .2) o (rw z at r) (rec (a .0) (a .1) (a .2) (a .3)))
-        go e x f c o r false w rec y =
-            let a = needed q l t (isSign (closes g) c) _ _ _ y in
-            let z = is-sign (closes g) c (a .0) in
-            listed-recast (a .1) (list-last i seen p e f x o (rw z at r))
+            listed-recast (a .4) (list-more i seen p e f (a .0) x (a .2) o r (rec (a .0) (a .1) (a .2) (a .3)))
+        go e x f false o r rec y = listed-recast y (list-last i seen p e f x o r)
 
   held-recast : {room : ℕ} {g : Shape} {row p q l q' l' : ℕ} {t t' : Tuples} → good q l t ≡ good q' l' t' → Held-in room g row p q t → Held-in room g row p q' t'
   held-recast e y = let a = same-place e in let b = same-thing e in rw (a, b) at y
@@ -402,16 +454,16 @@ module _ (d s : List ℕ) (ok : accepts d ≡ true) where
   inside-sound zero g row at p q l t h k b y = never y
   inside-sound (suc room) g row at p q l t h k b y = contents-sound room (λ g row at p q l t. inside-sound room g row at p q l t) g row at p q l t h k b y
 
-  set-token : (k : Token) → begins k ≡ true → eqb (formFor d 0 k) setForm ≡ true → k ≡ aSign (opens aSet)
+  set-token : (k : Token) → begins k ≡ true → eqb (formFor d 0 k) setForm ≡ true → k ≡ aSign (opens Set)
   unfolding formFor
-  set-token (aSign b) h e = go (eqb b 123) refl e
+  set-token (aSign b) h e = go (eqb b (opens Set)) refl e
     where
-      go : (u : Bool) → eqb b 123 ≡ u → eqb (choose u (λ _. setForm) (λ _. arrayForm)) setForm ≡ true → aSign b ≡ aSign 123
-      go true f e = ap aSign (eqb-true b 123 f)
+      go : (u : Bool) → eqb b (opens Set) ≡ u → eqb (choose u (λ _. setForm) (λ _. arrayForm)) setForm ≡ true → aSign b ≡ aSign (opens Set)
+      go true f e = ap aSign (eqb-true b (opens Set) f)
       go false f e = absurd (true≢false (sym e))
   set-token (aString t) h e = go (isEnum d 0) e
     where
-      go : (u : Bool) → eqb (choose u (λ _. enumForm) (λ _. stringForm)) setForm ≡ true → aString t ≡ aSign 123
+      go : (u : Bool) → eqb (choose u (λ _. enumForm) (λ _. stringForm)) setForm ≡ true → aString t ≡ aSign (opens Set)
       go true e = absurd (true≢false (sym e))
       go false e = absurd (true≢false (sym e))
   set-token aNull h e = absurd (true≢false (sym e))
@@ -436,10 +488,10 @@ module _ (d s : List ℕ) (ok : accepts d ≡ true) where
       let y₄ = needed q l t (eqb (formFor d 0 k) setForm) _ _ _ (y₃ .1) in
       let r = (next-sound s 0 (y₁ .0) (y₁ .1) k (omega arith) (y₁ .3)) .1 in
       let z = accepted-header d ok in
-      made (y₁ .0) k (set-token k (y₂ .0) (y₄ .0)) r (inside-sound depthMost aSet 0 (past space s 0) (y₁ .0) q l t (omega (arith, z .some)) (z .root) (r .within) (y₄ .1))
+      made (y₁ .0) k (set-token k (y₂ .0) (y₄ .0)) r (inside-sound depthMost Set 0 (past space s 0) (y₁ .0) q l t (omega (arith, z .some)) (z .root) (r .within) (y₄ .1))
     where
-      made : (e : ℕ) (k : Token) → k ≡ aSign (opens aSet) → Reach s (k ∷ []) 0 e → Held-in depthMost aSet 0 e q t → Reach s (rootTokens d t) 0 q × Fits d t 0 0 [] × Sound t × (suc (depth t) ≤ depthMost)
-      made e k f r o = (reach-join (aSign (opens aSet) ∷ []) (tokensOf d t 0 0 ++ (aSign (closes aSet) ∷ [])) (rw f at r) (o .reach), o .fitting, o .proper, o .shallow)
+      made : (e : ℕ) (k : Token) → k ≡ aSign (opens Set) → Reach s (k ∷ []) 0 e → Held-in depthMost Set 0 e q t → Reach s (rootTokens d t) 0 q × Fits d t 0 0 [] × Sound t × (suc (depth t) ≤ depthMost)
+      made e k f r o = (reach-join (aSign (opens Set) ∷ []) (tokensOf d t 0 0 ++ (aSign (closes Set) ∷ [])) (rw f at r) (o .reach), o .fitting, o .proper, o .shallow)
 
   rest-blank : (q : ℕ) → q ≤ length s → length s ≤ past space s q → Spells [] (drop q s)
   unfolding Spells

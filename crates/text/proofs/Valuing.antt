@@ -1,6 +1,6 @@
 -- One value and one key: what a tree's token says where it is due.
 -- Assumes nothing.
---   base-kind         a row of a format of the base
+--   base-kind, fits-well   a row of a format of the base; a format of the base that fits is no misfit
 --   form-token, scalar-token   the token of a scalar that fits has its format, and says it
 --   Arrived s j x r m   the judgement j is x, up to a place not before m from which the tokens r follow
 --   key-complete, scalar-value, group-value, member-complete   a key, values, a member
@@ -12,16 +12,19 @@ use native.Mathlib.Omega.{arith}
 use lib.ListN.{length, drop}
 use lib.Dec.{eqb, ltb}
 use borrow.Author.Tests.{eqb-false, eq-eqb, ne-eqb, le-ltb}
-use Rattle.terms.specs.Checks.{Judged, good}
-use Rattle.terms.proofs.Tests.{and-not-left, and-not-right}
+use Rattle.paper.specs.Refusals.{accepted}
+use Rattle.paper.specs.Checks.{Judged, good}
+use Rattle.paper.proofs.Tests.{and-not-left, and-not-right}
 use Rattle.numbers.proofs.Decimals.{text-says}
 use Rattle.dictionary.specs.declared.Child.the-variants.{At}
-use Rattle.dictionary.specs.Formats.{setForm, nullForm, enumForm, stringForm}
+use Rattle.dictionary.specs.Formats.{setForm, nullForm, enumForm, stringForm, realForm}
 use Rattle.dictionary.specs.Rows.{entries, kind, firstChild, name}
 use Rattle.dictionary.specs.Children.{childNumbered, childNamed}
 use Rattle.dictionary.specs.Accepts.{accepts}
 use Rattle.dictionary.proofs.Laws.{accepted-family, accepted-members, enum-parent, named-known}
-use Rattle.payload.specs.Tree.{Scalar, null, integer, option, string, boolean, Shape, aSet, anArray, Tuples, formatOf, shapeFormat}
+use Rattle.payload.specs.Tree.{Scalar, null, integer, option, string, boolean, Tuples, formatOf, shapeFormat}
+use Rattle.payload.specs.declared.Shape.{Shape}
+use Rattle.payload.specs.declared.Shape.the-variants.{Set, Array}
 use Rattle.payload.specs.Values.{worth}
 use Rattle.payload.specs.Fits.{child, rowOf, fits, allowed, known, fresh}
 use Rattle.payload.specs.Text.{colon, opens}
@@ -33,8 +36,8 @@ use Rattle.payload.proofs.Complete.{scalar-base, shape-base}
 use Rattle.text.specs.Tokens.{Token, aSign, aString, space}
 use Rattle.text.specs.Spells.{Spells, tokenOf, labelTokens}
 use Rattle.text.specs.Scanning.{past}
-use Rattle.text.specs.Values.{begins, inBase, isEnum, formFor, integerFor, optionFor, scalarFor}
-use Rattle.text.specs.Writing.{keyAt, valueAt, memberAt}
+use Rattle.text.specs.Values.{begins, inBase, isEnum, formFor, misfitFor, integerFor, optionFor, scalarFor}
+use Rattle.text.specs.Writing.{nameAt, colonAt, keyAt, valueAt, memberAt}
 use Rattle.text.proofs.Labels.{set-parent}
 use Rattle.text.proofs.Words.{Proper}
 use Rattle.text.proofs.Spacing.{Signed, loose-signed, next-complete}
@@ -52,14 +55,18 @@ base-fits d row f b h = go (eqb f nullForm) refl
     go true e = and-not-right (not (inBase d row)) _ (rw e)
     go false e = and-not-left (not (inBase d row)) _ (ap not (base-kind d row f b (fits-own d row f (eqb-false f nullForm e) .0 h)))
 
+pub fits-well : (d : List ℕ) (row f : ℕ) → Base f → fits d row f ≡ true → misfitFor d row f ≡ accepted
+unfolding misfitFor
+fits-well d row f b h = rw (ne-eqb f realForm (b .not-real), base-fits d row f b h, h)
+
 module _ (d : List ℕ) (ok : accepts d ≡ true) (row : ℕ) (h : row < entries d) where
   not-enum : (f : ℕ) → (f ≡ nullForm → ⊥) → (f ≡ enumForm → ⊥) → fits d row f ≡ true → isEnum d row ≡ false
   unfolding isEnum
-  not-enum f a b e = let z = fits-own d row f a .0 e in ne-eqb (kind d row) 4 (λ y. b (z ∙ y))
+  not-enum f a b e = let z = fits-own d row f a .0 e in ne-eqb (kind d row) enumForm (λ y. b (z ∙ y))
 
   an-enum : fits d row enumForm ≡ true → isEnum d row ≡ true
   unfolding isEnum
-  an-enum e = eq-eqb (kind d row) 4 (enum-kind d ok row e)
+  an-enum e = eq-eqb (kind d row) enumForm (enum-kind d ok row e)
 
   pub form-token : (x : Scalar) → fits d row (formatOf x) ≡ true → formFor d row (tokenOf d row x) ≡ formatOf x
   unfolding formFor
@@ -102,25 +109,25 @@ begins-token d row (string t) = refl
 begins-token d row (boolean b) = refl
 
 begins-open : (g : Shape) → begins (aSign (opens g)) ≡ true
-begins-open aSet = refl
-begins-open anArray = refl
+begins-open Set = refl
+begins-open Array = refl
 
 form-open : (d : List ℕ) (row : ℕ) (g : Shape) → formFor d row (aSign (opens g)) ≡ shapeFormat g
 unfolding formFor
-form-open d row aSet = refl
-form-open d row anArray = refl
+form-open d row Set = refl
+form-open d row Array = refl
 
 shape-open : (g : Shape) → shapeOf (shapeFormat g) ≡ g
-shape-open aSet = refl
-shape-open anArray = refl
+shape-open Set = refl
+shape-open Array = refl
 
 group-open : (g : Shape) → ltb (shapeFormat g) 2 ≡ true
-group-open aSet = refl
-group-open anArray = refl
+group-open Set = refl
+group-open Array = refl
 
 module _ (d s : List ℕ) (ok : accepts d ≡ true) where
-  key-set : (row i n : ℕ) (seen : List ℕ) (p : ℕ) (r : List Token) → row < entries d → kind d row ≡ setForm → known d row i n ≡ true → fresh d row seen n ≡ true → Spells (aString (name d (child d row n)) ∷ aSign colon ∷ r) (drop p s) → Arrived s (keyAt d s aSet row i seen p) n r p
-  unfolding keyAt
+  key-set : (row i n : ℕ) (seen : List ℕ) (p : ℕ) (r : List Token) → row < entries d → kind d row ≡ setForm → known d row i n ≡ true → fresh d row seen n ≡ true → Spells (aString (name d (child d row n)) ∷ aSign colon ∷ r) (drop p s) → Arrived s (keyAt d s Set row i seen p) n r p
+  unfolding keyAt nameAt colonAt
   key-set row i n seen p r h k e f y =
       let w = accepted-family d ok row h (set-parent d row k) in
       let m = accepted-members d ok row h (λ z. omega (arith, sym k ∙ z)) (set-parent d row k) in
@@ -139,15 +146,15 @@ module _ (d s : List ℕ) (ok : accepts d ≡ true) where
 
   pub key-complete : (g : Shape) (row i n : ℕ) (seen : List ℕ) (p : ℕ) (r : List Token) → row < entries d → kind d row ≡ shapeFormat g → known d row i n ≡ true → fresh d row seen n ≡ true → p ≤ length s → Spells (labelTokens d row n ++ r) (drop p s) → Arrived s (keyAt d s g row i seen p) n r p
   unfolding labelTokens keyAt
-  key-complete aSet row i n seen p r h k e f b y = key-set row i n seen p r h k e f (rw (eq-eqb (kind d row) 0 k) at y)
-  key-complete anArray row i n seen p r h k e f b y = array (λ z. omega (arith, sym k ∙ z))
+  key-complete Set row i n seen p r h k e f b y = key-set row i n seen p r h k e f (rw (eq-eqb (kind d row) 0 k) at y)
+  key-complete Array row i n seen p r h k e f b y = array (λ z. omega (arith, sym k ∙ z))
     where
-      array : (kind d row ≡ setForm → ⊥) → Arrived s (keyAt d s anArray row i seen p) n r p
+      array : (kind d row ≡ setForm → ⊥) → Arrived s (keyAt d s Array row i seen p) n r p
       array z =
           let v : n ≡ i = known-array d row n z i .0 e in
           record { place = p; is = key-array v; rest = rw (ne-eqb (kind d row) 0 z) at y; further = omega arith; within = b }
         where
-          key-array : n ≡ i → keyAt d s anArray row i seen p ≡ good p 0 n
+          key-array : n ≡ i → keyAt d s Array row i seen p ≡ good p 0 n
           key-array v = rw v
 
   module _ (within : Shape → ℕ → ℕ → ℕ → Judged Tuples) where
@@ -159,7 +166,7 @@ module _ (d s : List ℕ) (ok : accepts d ≡ true) where
         let b = scalar-base x in
         record {
           place = o .0;
-          is = rw (o .1 .is, begins-token d row x, form-token d ok row h x f, ne-eqb (formatOf x) 6 (b .not-real), base-fits d row (formatOf x) b f, f, le-ltb (formatOf x) 2 (scalar-high x), scalar-token d ok row h x f a v);
+          is = rw (o .1 .is, begins-token d row x, form-token d ok row h x f, fits-well d row (formatOf x) b f, le-ltb (formatOf x) 2 (scalar-high x), scalar-token d ok row h x f a v);
           rest = o .1 .rest;
           further = omega (arith, o .1 .further);
           within = o .1 .within;
@@ -173,7 +180,7 @@ module _ (d s : List ℕ) (ok : accepts d ≡ true) where
         let b = shape-base g in
         record {
           place = c .place;
-          is = rw (o .1 .is, begins-open g, form-open d row g, ne-eqb (shapeFormat g) 6 (b .not-real), base-fits d row (shapeFormat g) b f, f, group-open g, shape-open g, c .is);
+          is = rw (o .1 .is, begins-open g, form-open d row g, fits-well d row (shapeFormat g) b f, group-open g, shape-open g, c .is);
           rest = c .rest;
           further = omega (arith, o .1 .further, c .further);
           within = c .within;

@@ -10,7 +10,7 @@ use Prim.Native.Nat.{ℕ, _+_, _<_, _≤_}
 use native.Mathlib.Omega.{arith}
 use lib.Dec.{leb, eqb}
 use borrow.Author.Tests.{leb-true, eqb-true, eqb-false}
-use Rattle.terms.proofs.Tests.{and-right}
+use Rattle.paper.proofs.Tests.{and-right}
 use Rattle.numbers.specs.declared.Integer.{Integer}
 use Rattle.numbers.specs.declared.Integer.the-variants.{Plus, Minus}
 use Rattle.numbers.specs.Integer.{Held}
@@ -26,7 +26,8 @@ use Rattle.payload.specs.Tree.{Scalar, null, integer, option, string, boolean, 
 use Rattle.payload.specs.Strings.{wellSpelt}
 use Rattle.payload.specs.Writes.{Holds}
 use Rattle.payload.specs.Fits.{rowOf, fits, allowed}
-use Rattle.payload.specs.Text.{quoted, nullText, trueText, falseText, word}
+use Rattle.payload.specs.declared.Shape.the-variants.{Array}
+use Rattle.payload.specs.Text.{opens, closes, quoted, nullText, trueText, falseText, word}
 use Rattle.payload.proofs.Sitting.{fits-own, option-known}
 use Rattle.text.proofs.Labels.{spelt-unquoted, quoted-cut, named-cut}
 
@@ -46,7 +47,7 @@ holds-proper (boolean b) v h = tt
 
 pub record First (x : Scalar) (b : ℕ) : Type 0 where
   pub under : b < 120
-  pub square : 91 ≤ b → b ≤ 93 → ⊥
+  pub square : opens Array ≤ b → b ≤ closes Array → ⊥
   pub empty : b ≡ 110 → formatOf x ≡ nullForm
 
 low : (x : Scalar) (b : ℕ) → b < 58 → First x b

@@ -5,3 +5,6 @@ pub mod Numerals
 pub mod Scanning
 pub mod Values
 pub mod Writing
+pub mod Spots
+pub mod Refusing
+pub mod Writable

@@ -6,7 +6,7 @@ use mathlib.Core.List.{List, [], _∷_}
 use mathlib.Core.Bool.{Bool, true, _&&_, _||_}
 use lib.ListN.{length, take, drop}
 use lib.Dec.{ltb, eqb}
-use Rattle.terms.specs.Checks.{choose}
+use Rattle.paper.specs.Checks.{choose}
 use Rattle.numbers.specs.Decimal.{digit, digitsOnly, integral}
 use Rattle.text.specs.Tokens.{plus, minus, point}
 
@@ -33,8 +33,8 @@ fraction [] = true
 fraction (c ∷ t) =
     choose (eqb c point) (λ _. ltb 0 (leading digit t) && exponent (drop (leading digit t) t)) (λ _. exponent (c ∷ t))
 
-abbrev pub wholeByte : ℕ → Bool
-wholeByte c = eqb c minus || digit c
+abbrev pub integerByte : ℕ → Bool
+integerByte c = eqb c minus || digit c
 
 unfoldable pub numeral : List ℕ → Bool
-numeral w = integral (take (leading wholeByte w) w) && fraction (drop (leading wholeByte w) w)
+numeral w = integral (take (leading integerByte w) w) && fraction (drop (leading integerByte w) w)

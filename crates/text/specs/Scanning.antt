@@ -1,7 +1,7 @@
 -- The answers for one token: the token that stands at a place of a text, or refusal 15. Document 01, "The text": "A token's own grammar and its turn come first (15)"; here its own
 -- grammar, and "text length where it ends early". The writer has no budget, so that its results carry 0 there.
 --   past P s p     the first place of s, from p on, whose byte fails the test P, or the end
---   tokenAt s p    the token that begins at p
+--   tokenAt s p    the token that begins at p; stringAt, wordAt, numeralAt: where it begins with a quote, with neither quote nor sign, and where it is no word
 --   next s p go    passes the spaces from p on, and goes on with the token after them: its place, the place after it, and itself
 use Prim.Native.Nat.{ℕ, _+_}
 use mathlib.Core.List.{List}
@@ -9,9 +9,9 @@ use mathlib.Core.Bool.{Bool, true, false}
 use lib.ListN.{length, drop}
 use lib.Seq.{slice}
 use lib.Dec.{leb, eqb}
-use Rattle.terms.specs.Refusals.{badText}
-use Rattle.terms.specs.Checks.{choose, Judged, good, refuse, need, after}
-use Rattle.terms.specs.Tests.{same}
+use Rattle.paper.specs.Refusals.{badText}
+use Rattle.paper.specs.Checks.{choose, Judged, good, refuse, need, after}
+use Rattle.paper.specs.Tests.{same}
 use Rattle.numbers.specs.Bytes.{byte}
 use Rattle.numbers.specs.Decimal.{integral}
 use Rattle.payload.specs.Strings.{stringByte}
@@ -30,14 +30,18 @@ stringAt s p q =
     good (q + 1) 0 (aString (slice (p + 1) q s))
 
 -- "the longest run of letters, digits and `+-.`, or else one byte": the run w from p to q, empty where it is that one byte, which breaks the grammar as a bad run does
+unfoldable pub numeralAt : List ℕ → ℕ → ℕ → Judged Token
+numeralAt w p q =
+    choose (integral w) (λ _. good q 0 (anInteger w)) λ _.
+    need (numeral w) badText p λ _.
+    good q 0 (aReal w)
+
 unfoldable pub wordAt : List ℕ → ℕ → ℕ → Judged Token
 wordAt w p q =
     choose (same w nullText) (λ _. good q 0 aNull) λ _.
     choose (same w trueText) (λ _. good q 0 (aBoolean true)) λ _.
     choose (same w falseText) (λ _. good q 0 (aBoolean false)) λ _.
-    choose (integral w) (λ _. good q 0 (anInteger w)) λ _.
-    need (numeral w) badText p λ _.
-    good q 0 (aReal w)
+    numeralAt w p q
 
 unfoldable pub tokenAt : List ℕ → ℕ → Judged Token
 tokenAt s p =

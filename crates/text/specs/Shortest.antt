@@ -7,7 +7,8 @@ use mathlib.Core.List.{List, [], _∷_, _++_}
 use lib.ListN.{length}
 use Rattle.numbers.specs.Number.{numberOf}
 use Rattle.numbers.specs.Integer.{briefOf}
-use Rattle.payload.specs.Tree.{Scalar, null, integer, option, string, boolean, aSet, Tuples, none, scalar, inner, formatOf, shapeFormat, booleanByte, size}
+use Rattle.payload.specs.Tree.{Scalar, null, integer, option, string, boolean, Tuples, none, scalar, inner, formatOf, shapeFormat, booleanByte, size}
+use Rattle.payload.specs.declared.Shape.the-variants.{Set}
 use Rattle.payload.specs.Header.{headerWith}
 
 abbrev pub formByte : ℕ → ℕ
@@ -30,4 +31,4 @@ shortest (scalar n x rest) = tupleOf n (formatOf x) (valueBytes x) ++ shortest r
 shortest (inner n g kids rest) = tupleOf n (shapeFormat g) (numberOf (size kids) ++ shortest kids) ++ shortest rest
 
 unfoldable pub payloadOf : Tuples → List ℕ
-payloadOf t = headerWith 0 0 ++ tupleOf 0 (shapeFormat aSet) (numberOf (size t) ++ shortest t)
+payloadOf t = headerWith 0 0 ++ tupleOf 0 (shapeFormat Set) (numberOf (size t) ++ shortest t)

@@ -8,12 +8,13 @@ use mathlib.Core.Path.{_≡_}
 use mathlib.Core.List.{List, [], _∷_, _++_}
 use mathlib.Core.Bool.{Bool, true, false, not, _&&_}
 use lib.Dec.{eqb}
-use Rattle.terms.specs.Limits.{depthMost}
-use Rattle.terms.specs.Checks.{choose}
+use Rattle.paper.specs.Limits.{depthMost}
+use Rattle.paper.specs.Checks.{choose}
 use Rattle.numbers.specs.Decimal.{decimalOf}
 use Rattle.dictionary.specs.Rows.{name}
 use Rattle.dictionary.specs.Children.{childNumbered}
-use Rattle.payload.specs.Tree.{Scalar, null, integer, option, string, boolean, aSet, Tuples, none, scalar, inner, depth}
+use Rattle.payload.specs.Tree.{Scalar, null, integer, option, string, boolean, Tuples, none, scalar, inner, depth}
+use Rattle.payload.specs.declared.Shape.the-variants.{Set}
 use Rattle.payload.specs.Writes.{Cut, Payload}
 use Rattle.payload.specs.Fits.{Fits, isSet, child, rowOf}
 use Rattle.payload.specs.Text.{quote, comma, colon, opens, closes, rootCount}
@@ -57,7 +58,7 @@ module _ (d : List ℕ) where
 
   -- the tokens of a text whose root, an object, has these members
   abbrev pub rootTokens : Tuples → List Token
-  rootTokens t = aSign (opens aSet) ∷ (tokensOf t 0 0 ++ (aSign (closes aSet) ∷ []))
+  rootTokens t = aSign (opens Set) ∷ (tokensOf t 0 0 ++ (aSign (closes Set) ∷ []))
 
   pub record Says (s b : List ℕ) (n : ℕ) : Type 0 where
     pub tree : Tuples

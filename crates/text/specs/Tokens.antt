@@ -9,7 +9,7 @@ use mathlib.Core.List.{List, [], _∷_}
 use mathlib.Core.Bool.{Bool, true, false, _&&_, _||_}
 use lib.Dec.{leb, eqb}
 use Rattle.numbers.specs.Decimal.{digit}
-use Rattle.payload.specs.Tree.{aSet, anArray}
+use Rattle.payload.specs.declared.Shape.the-variants.{Set, Array}
 use Rattle.payload.specs.Text.{comma, colon, opens, closes, nullText, trueText, falseText, quoted}
 
 -- a sign is its byte; a string is what stands between its quotes; a number is its text, an integer where it has neither fraction nor exponent
@@ -47,10 +47,10 @@ space c = eqb c 0x20 || eqb c 0x09 || eqb c 0x0A || eqb c 0x0D
 -- "one of `{}[]:,`"
 unfoldable pub sign : ℕ → Bool
 sign c =
-    eqb c (opens aSet)
-    || eqb c (closes aSet)
-    || eqb c (opens anArray)
-    || eqb c (closes anArray)
+    eqb c (opens Set)
+    || eqb c (closes Set)
+    || eqb c (opens Array)
+    || eqb c (closes Array)
     || eqb c colon
     || eqb c comma
 

@@ -3,13 +3,14 @@
 --   isSign, begins    a token is this sign; its turn may be where a value is due
 --   inBase            a row's format is in the base
 --   formFor           the format that a token is written with at a row
+--   misfitFor         the refusal of a format at a row, or `accepted`
 --   scalarFor         the scalar that a token says at a row, or refusal 10
 use Prim.Native.Nat.{ℕ}
 use mathlib.Core.List.{List}
-use mathlib.Core.Bool.{Bool, true, false, _||_}
+use mathlib.Core.Bool.{Bool, true, false, not, _&&_, _||_}
 use lib.Dec.{eqb}
-use Rattle.terms.specs.Refusals.{valueWrong}
-use Rattle.terms.specs.Checks.{choose}
+use Rattle.paper.specs.Refusals.{accepted, notInBase, misfit, valueWrong}
+use Rattle.paper.specs.Checks.{choose}
 use Rattle.numbers.specs.declared.Said.{Said}
 use Rattle.numbers.specs.declared.Said.the-variants.{Wrong, Is}
 use Rattle.numbers.specs.Decimal.{integerSaid}
@@ -18,7 +19,9 @@ use Rattle.dictionary.specs.declared.Child.the-variants.{At, Nothing}
 use Rattle.dictionary.specs.Formats.{setForm, arrayForm, nullForm, integerForm, enumForm, stringForm, realForm, booleanForm}
 use Rattle.dictionary.specs.Rows.{kind, numberIn}
 use Rattle.dictionary.specs.Children.{childNamed}
-use Rattle.payload.specs.Tree.{null, integer, option, string, boolean, aSet, anArray}
+use Rattle.payload.specs.Tree.{null, integer, option, string, boolean}
+use Rattle.payload.specs.declared.Shape.the-variants.{Set, Array}
+use Rattle.payload.specs.Fits.{fits}
 use Rattle.payload.specs.Text.{opens}
 use Rattle.payload.specs.Values.{Valued, wrong, worth}
 use Rattle.payload.specs.Reading.{supported}
@@ -35,7 +38,7 @@ isSign c (aReal w) = false
 
 -- of the signs, only those that open an object or an array
 abbrev pub begins : Token → Bool
-begins (aSign b) = eqb b (opens aSet) || eqb b (opens anArray)
+begins (aSign b) = eqb b (opens Set) || eqb b (opens Array)
 begins (aString t) = true
 begins aNull = true
 begins (aBoolean b) = true
@@ -51,12 +54,22 @@ isEnum d row = eqb (kind d row) enumForm
 
 -- "enum options as strings": a string is an option where the row is an enum. Fraction or exponent make a real
 unfoldable pub formFor : List ℕ → ℕ → Token → ℕ
-formFor d row (aSign b) = choose (eqb b (opens aSet)) (λ _. setForm) (λ _. arrayForm)
+formFor d row (aSign b) = choose (eqb b (opens Set)) (λ _. setForm) (λ _. arrayForm)
 formFor d row (aString t) = choose (isEnum d row) (λ _. enumForm) (λ _. stringForm)
 formFor d row aNull = nullForm
 formFor d row (aBoolean b) = booleanForm
 formFor d row (anInteger w) = integerForm
 formFor d row (aReal w) = realForm
+
+-- "fraction or exponent 8, row of a format not in the base and value not null 8, fit 9"
+abbrev pub unfitFor : List ℕ → ℕ → ℕ → ℕ
+unfitFor d row f = choose (fits d row f) (λ _. accepted) (λ _. misfit)
+
+unfoldable pub misfitFor : List ℕ → ℕ → ℕ → ℕ
+misfitFor d row f =
+    choose (eqb f realForm) (λ _. notInBase) λ _.
+    choose (not (inBase d row) && not (eqb f nullForm)) (λ _. notInBase) λ _.
+    unfitFor d row f
 
 -- "Integers hold what 8 bytes hold; `-0` is 10."
 abbrev pub integerFor : Said → Valued

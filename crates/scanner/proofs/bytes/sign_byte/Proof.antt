@@ -1,9 +1,0 @@
--- `scanner::bytes::sign_byte` meets its contract: each return is one of the six signs, or none.
--- Assumes nothing.
-use Rattle.scanner.proofs.Classes.{signs}
-use borrow.Author.Needs.{needs}
-use Rattle.scanner.proofs.bytes.sign_byte.Statement.{statement}
-use Rattle.scanner.proofs.bytes.sign_byte.Tie as tie
-
-pub sign-byte-spec : {M : Type 1} → statement M
-sign-byte-spec = tie.close (tie.spec (λ c. search (signs, needs)) (λ c. search (signs, needs)) (λ c. search (signs, needs)) (λ c. search (signs, needs)) (λ c. search (signs, needs)) (λ c. search (signs, needs)))

@@ -1,9 +1,0 @@
--- `turns::heads::fitted` meets its contract: the format fits or not.
--- Assumes nothing.
-use Rattle.turns.proofs.Heading.{fitteds}
-use borrow.Author.Needs.{needs}
-use Rattle.turns.proofs.heads.fitted.Statement.{statement}
-use Rattle.turns.proofs.heads.fitted.Tie as tie
-
-pub fitted-spec : {M : Type 1} → statement M
-fitted-spec = tie.close (tie.spec (λ c κs. search needs) (λ c. search (fitteds, needs)) (λ c. search (fitteds, needs)))

@@ -1,0 +1,3 @@
+pub mod Lengthy
+pub mod Trees
+pub mod Plans
