@@ -1,23 +1,13 @@
--- The laws of the desk's definitions; the theorems are in Swapping, Mixing, Listing and Codec.
+-- The laws of the desk's definitions, and for each function one lemma for each return.
+pub mod Answered
 pub mod Places
 pub mod Soundness
-pub mod Moving
-pub mod Putting
-pub mod ByNumber
-pub mod Opening
-pub mod Pasting
-pub mod Feeding
-pub mod Touching
-pub mod Swapping
-pub mod Orders
-pub mod Mixing
-pub mod Listing
-pub mod Codec
+pub mod Settling
 pub mod Scanning
-pub mod Ruling
 pub mod Reaching
 pub mod Answering
 pub mod Entering
 pub mod Supplying
-pub mod Turns
+pub mod Copying
+pub mod Filling
 pub mod Sifting

@@ -1,4 +1,4 @@
--- The tests that come first: admit, reach and judge, one lemma for each return; and what a call that names a known operation answers past them, for any move.
+-- The tests that come first: admit, reach and refusal_of_call, one lemma for each return; and what a call that names a known operation answers past them, for any move.
 -- Assumes nothing.
 use Prim.Native.Nat.{ℕ, _<_, _≤_}
 use mathlib.Core.Path.{_≡_, refl, sym, ap, _∙_}
@@ -7,27 +7,29 @@ use native.Mathlib.Omega.{arith}
 use lib.ListN.{getD}
 use lib.Dec.{eqb}
 use borrow.Author.Tests.{eq-eqb, ne-eqb, lt-ltb, le-ltb, eqb-true, eqb-false, not-true, not-false}
-use Rattle.desk.specs.declared.Record.{Record}
+use Rattle.paper.specs.Limits.{deskMost}
+use Rattle.paper.specs.Refusals.{notSound, numberZero, noSuchNumber, notAllowed, amountWrong}
+use Rattle.desk_records.specs.declared.Record.{Record}
 use Rattle.desk.specs.declared.Desk.{Desk}
 use Rattle.desk.specs.declared.Gate.{Gate}
 use Rattle.desk.specs.declared.Moved.{Moved}
-use Rattle.desk.specs.Record.{empty}
-use Rattle.desk.specs.Moves.{Move}
+use Rattle.desk_records.specs.Record.{empty}
+use Rattle.desk_records.specs.Moves.{Move}
 use Rattle.desk.specs.Desk.{place, sound, has, recordOf, put}
 use Rattle.desk.specs.Calls.{statusNumber, callNumber, called, unless}
-use Rattle.desk.specs.Met.{Found, Gated, gateNumber, judged}
-use Rattle.desk.proofs.Places.{split}
+use Rattle.desk.specs.Met.{Found, Gated, gateNumber, refusalOfCall}
+use Rattle.paper.proofs.Tests.{split}
 
 abbrev pub answer : Desk → ℕ → Moved
 answer d number = record { desk = d; number = number }
 
 -- admit
 module _ (d : Desk) (n : ℕ) (s : Bool) (is : s ≡ sound d) where
-  pub admit-unsound : not s ≡ true → 20 ≡ statusNumber d n
+  pub admit-unsound : not s ≡ true → notSound ≡ statusNumber d n
   unfolding statusNumber
   admit-unsound q = rw (← is, not-true s q)
 
-  pub admit-zero : not s ≡ false → n ≡ 0 → 21 ≡ statusNumber d n
+  pub admit-zero : not s ≡ false → n ≡ 0 → numberZero ≡ statusNumber d n
   unfolding statusNumber
   admit-zero q z = rw (← is, not-false s q, eq-eqb _ _ z)
 
@@ -45,14 +47,14 @@ gate-refused d n z =
     (λ s. split (eqb n 0) (λ t. rw (s, t)) (λ t. absurd (z (rw (s, t)))))
     (λ s. rw s)
 
-gate-further : (d : Desk) (n : ℕ) → statusNumber d n ≡ 0 → gateNumber d n ≡ unless (has n d) 24 (λ _. 0)
+gate-further : (d : Desk) (n : ℕ) → statusNumber d n ≡ 0 → gateNumber d n ≡ unless (has n d) noSuchNumber (λ _. 0)
 unfolding statusNumber gateNumber
 gate-further d n e =
     split (sound d)
-    (λ s. split (eqb n 0) (λ t. absurd (eqb-false 21 0 refl (rw (s, t) at e))) (λ t. rw (s, t)))
-    (λ s. absurd (eqb-false 20 0 refl (rw s at e)))
+    (λ s. split (eqb n 0) (λ t. absurd (eqb-false numberZero 0 refl (rw (s, t) at e))) (λ t. rw (s, t)))
+    (λ s. absurd (eqb-false notSound 0 refl (rw s at e)))
 
-gated : (d : Desk) (n k p : ℕ) → k ≡ gateNumber d n → p ≡ cond (eqb k 0) (place n (d .records)) 0 → p < 8 → Gated d n (record { number = k; at = p })
+gated : (d : Desk) (n k p : ℕ) → k ≡ gateNumber d n → p ≡ cond (eqb k 0) (place n (d .records)) 0 → p < deskMost → Gated d n (record { number = k; at = p })
 gated d n k p e f h = record { number = e; at = rw (← e) f; within = h }
 
 -- reach
@@ -61,14 +63,14 @@ module _ (d : Desk) (n k : ℕ) (is : k ≡ statusNumber d n) where
   reach-refused z = gated d n k 0 (is ∙ sym (gate-refused d n (λ e. z (is ∙ e)))) (rw (ne-eqb _ _ z)) (omega arith)
 
   module _ (z : k ≡ 0) (p : ℕ) (f : Found d n 0 p) where
-    pub reach-none : 8 ≤ p → Gated d n (record { number = 24; at = 0 })
+    pub reach-none : deskMost ≤ p → Gated d n (record { number = noSuchNumber; at = 0 })
     reach-none h =
-        let q : 8 ≤ place n (d .records) = omega (arith, f .here) in
-        gated d n 24 0 (sym (gate-further d n (sym is ∙ z) ∙ rw (le-ltb _ _ q))) refl (omega arith)
+        let q : deskMost ≤ place n (d .records) = omega (arith, f .here) in
+        gated d n noSuchNumber 0 (sym (gate-further d n (sym is ∙ z) ∙ rw (le-ltb _ _ q))) refl (omega arith)
 
-    pub reach-at : p < 8 → Gated d n (record { number = 0; at = p })
+    pub reach-at : p < deskMost → Gated d n (record { number = 0; at = p })
     reach-at h =
-        let q : place n (d .records) < 8 = omega (arith, f .here) in
+        let q : place n (d .records) < deskMost = omega (arith, f .here) in
         gated d n 0 p (sym (gate-further d n (sym is ∙ z) ∙ rw (lt-ltb _ _ q))) (omega (arith, f .here)) h
 
 pub ruleset reaches = (reach-refused, reach-none, reach-at)
@@ -84,56 +86,56 @@ call-gate d n m z =
     (λ s. rw s)
 
 call-further : (d : Desk) (n : ℕ) (m : Move) → gateNumber d n ≡ 0
-    → callNumber d n m ≡ unless (m .allowed (recordOf n d .state)) 25 (λ _. unless (m .fits (recordOf n d)) 27 (λ _. 0))
+    → callNumber d n m ≡ unless (m .allowed (recordOf n d)) notAllowed (λ _. unless (m .fits (recordOf n d)) amountWrong (λ _. 0))
 unfolding gateNumber callNumber
 call-further d n m e =
     split (sound d)
     (λ s. split (eqb n 0)
-    (λ t. absurd (eqb-false 21 0 refl (rw (s, t) at e)))
-    (λ t. split (has n d) (λ u. rw (s, t, u)) (λ u. absurd (eqb-false 24 0 refl (rw (s, t, u) at e)))))
-    (λ s. absurd (eqb-false 20 0 refl (rw s at e)))
+    (λ t. absurd (eqb-false numberZero 0 refl (rw (s, t) at e)))
+    (λ t. split (has n d) (λ u. rw (s, t, u)) (λ u. absurd (eqb-false noSuchNumber 0 refl (rw (s, t, u) at e)))))
+    (λ s. absurd (eqb-false notSound 0 refl (rw s at e)))
 
 -- a refusal changes nothing; an accepted call replaces the record
-called-not : (d : Desk) (n : ℕ) (m : Move) (k : ℕ) → (k ≡ 0 → ⊥) → callNumber d n m ≡ k → answer d k ≡ called d n m
+pub called-not : (d : Desk) (n : ℕ) (m : Move) (k : ℕ) → (k ≡ 0 → ⊥) → callNumber d n m ≡ k → answer d k ≡ called d n m
 unfolding called
 called-not d n m k z e = rw (e, ne-eqb _ _ z)
 
-called-so : (d : Desk) (n : ℕ) (m : Move) → callNumber d n m ≡ 0 → answer (put d (place n (d .records)) (m .next (recordOf n d))) 0 ≡ called d n m
+pub called-so : (d : Desk) (n : ℕ) (m : Move) → callNumber d n m ≡ 0 → answer (put d (place n (d .records)) (m .next (recordOf n d))) 0 ≡ called d n m
 unfolding called
 called-so d n m e = rw e
 
 -- the tests past the gate, set out as the definition of a call and as the function have them
-flat : (a f : Bool) → unless a 25 (λ _. unless f 27 (λ _. 0)) ≡ cond a (cond f 0 27) 25
+flat : (a f : Bool) → unless a notAllowed (λ _. unless f amountWrong (λ _. 0)) ≡ cond a (cond f 0 amountWrong) notAllowed
 flat true true = refl
 flat true false = refl
 flat false f = refl
 
-pub judge-gate : (gate : ℕ) (a f : Bool) → (gate ≡ 0 → ⊥) → gate ≡ judged gate a f
-judge-gate gate a f z = rw (ne-eqb gate 0 z)
+pub past-gate : (gate : ℕ) (a f : Bool) → (gate ≡ 0 → ⊥) → gate ≡ refusalOfCall gate a f
+past-gate gate a f z = rw (ne-eqb gate 0 z)
 
 module _ (gate : ℕ) (z : gate ≡ 0) (a f : Bool) where
-  pub judge-state : not a ≡ true → 25 ≡ judged gate a f
-  judge-state q = rw (eq-eqb gate 0 z, not-true a q)
+  pub past-state : not a ≡ true → notAllowed ≡ refusalOfCall gate a f
+  past-state q = rw (eq-eqb gate 0 z, not-true a q)
 
-  pub judge-amount : not a ≡ false → not f ≡ true → 27 ≡ judged gate a f
-  judge-amount p q = rw (eq-eqb gate 0 z, not-false a p, not-true f q)
+  pub past-amount : not a ≡ false → not f ≡ true → amountWrong ≡ refusalOfCall gate a f
+  past-amount p q = rw (eq-eqb gate 0 z, not-false a p, not-true f q)
 
-  pub judge-good : not a ≡ false → not f ≡ false → 0 ≡ judged gate a f
-  judge-good p q = rw (eq-eqb gate 0 z, not-false a p, not-false f q)
+  pub past-good : not a ≡ false → not f ≡ false → 0 ≡ refusalOfCall gate a f
+  past-good p q = rw (eq-eqb gate 0 z, not-false a p, not-false f q)
 
-pub ruleset judges = (judge-gate, judge-state, judge-amount, judge-good)
+pub ruleset past = (past-gate, past-state, past-amount, past-good)
 
 -- what is known where they pass
-judged-gate : (gate : ℕ) (a f : Bool) → judged gate a f ≡ 0 → gate ≡ 0
-judged-gate gate a f e = split (eqb gate 0) (λ t. eqb-true gate 0 t) (λ t. rw t at e)
+gate-so : (gate : ℕ) (a f : Bool) → refusalOfCall gate a f ≡ 0 → gate ≡ 0
+gate-so gate a f e = split (eqb gate 0) (λ t. eqb-true gate 0 t) (λ t. rw t at e)
 
-fits-so : (a f : Bool) → _≡_ {A = ℕ} (cond a (cond f 0 27) 25) 0 → f ≡ true
+fits-so : (a f : Bool) → _≡_ {A = ℕ} (cond a (cond f 0 amountWrong) notAllowed) 0 → f ≡ true
 fits-so true true e = refl
-fits-so true false e = let z : _≡_ {A = ℕ} 27 0 = e in absurd (omega arith)
-fits-so false f e = let z : _≡_ {A = ℕ} 25 0 = e in absurd (omega arith)
+fits-so true false e = let z : _≡_ {A = ℕ} amountWrong 0 = e in absurd (omega arith)
+fits-so false f e = let z : _≡_ {A = ℕ} notAllowed 0 = e in absurd (omega arith)
 
-pub judged-fits : (gate : ℕ) (a f : Bool) → judged gate a f ≡ 0 → f ≡ true
-judged-fits gate a f e = fits-so a f (rw (eq-eqb gate 0 (judged-gate gate a f e)) at e)
+pub amount-so : (gate : ℕ) (a f : Bool) → refusalOfCall gate a f ≡ 0 → f ≡ true
+amount-so gate a f e = fits-so a f (rw (eq-eqb gate 0 (gate-so gate a f e)) at e)
 
 module _ (d : Desk) (n : ℕ) (g : Gate) (is : Gated d n g) where
   -- the record that the gate leads to
@@ -144,22 +146,22 @@ module _ (d : Desk) (n : ℕ) (g : Gate) (is : Gated d n g) where
   there z = is .at ∙ rw (← is .number, z)
 
   module _ (m : Move) where
-    further : g .number ≡ 0 → callNumber d n m ≡ unless (m .allowed (led .state)) 25 (λ _. unless (m .fits led) 27 (λ _. 0))
+    further : g .number ≡ 0 → callNumber d n m ≡ unless (m .allowed led) notAllowed (λ _. unless (m .fits led) amountWrong (λ _. 0))
     further z = rw (there z) (call-further d n m (sym (is .number) ∙ z))
 
-    numbered : judged (g .number) (m .allowed (led .state)) (m .fits led) ≡ callNumber d n m
+    pub numbered : refusalOfCall (g .number) (m .allowed led) (m .fits led) ≡ callNumber d n m
     numbered =
         split (eqb (g .number) 0)
-        (λ t. rw t (sym (further (eqb-true _ _ t) ∙ flat (m .allowed (led .state)) (m .fits led))))
+        (λ t. rw t (sym (further (eqb-true _ _ t) ∙ flat (m .allowed led) (m .fits led))))
         (λ t. rw t (is .number ∙ sym (call-gate d n m (λ e. eqb-false _ _ t (is .number ∙ e)))))
 
-    module _ (k : ℕ) (e : k ≡ judged (g .number) (m .allowed (led .state)) (m .fits led)) where
+    module _ (k : ℕ) (e : k ≡ refusalOfCall (g .number) (m .allowed led) (m .fits led)) where
       pub call-not : (k ≡ 0 → ⊥) → answer d k ≡ called d n m
       call-not z = called-not d n m k z (sym (e ∙ numbered))
 
       module _ (z : k ≡ 0) where
         pub open-gate : g .number ≡ 0
-        open-gate = judged-gate (g .number) (m .allowed (led .state)) (m .fits led) (sym e ∙ z)
+        open-gate = gate-so (g .number) (m .allowed led) (m .fits led) (sym e ∙ z)
 
         pub call-done : (a : Record) → a ≡ m .next led → answer (put d (g .at) a) 0 ≡ called d n m
         call-done a x = ap (λ y. answer (put d (g .at) y) 0) x ∙ rw (there open-gate) (called-so d n m (sym (e ∙ numbered) ∙ z))

@@ -1,26 +1,28 @@
 -- What each call answers, on every desk and every store, sound or not: the number, the whole desk after and the whole store after.
 --   opened, fed, started, finished, taken, killed, closed     the number and the desk after
+--   Fed                                                       what feed answers, and the store after it
 --   fedStore                                                  the store after a feed; no other call is lent it
 --   keptFrom                                                  where in the store a feed keeps its bytes
 --   told, listed                                              what status and list answer; the desk stays
 -- The orders of the tests stand in admit, openNumber and callNumber; what a call does to a record stands in Moves.
 use Prim.Native.Nat.{ℕ, _+_, _*_}
+use mathlib.Core.Path.{_≡_}
 use mathlib.Core.Bool.{Bool, not, cond}
 use mathlib.Core.List.{List, []}
 use lib.ListN.{length}
 use lib.Seq.{paste}
 use lib.Dec.{eqb}
-use Rattle.terms.specs.Checks.{choose}
-use Rattle.terms.specs.Limits.{declaredMost, storeBytes}
-use Rattle.terms.specs.Refusals.{accepted, notSound, numberZero, inUse, allTaken, noSuchNumber, notAllowed, openWrong, amountWrong}
-use Rattle.desk.specs.declared.Record.{Record}
+use Rattle.paper.specs.Checks.{choose}
+use Rattle.paper.specs.Limits.{declaredMost, storeBytes}
+use Rattle.paper.specs.Refusals.{accepted, notSound, numberZero, inUse, allTaken, noSuchNumber, notAllowed, openWrong, amountWrong}
+use Rattle.desk_records.specs.declared.Record.{Record}
 use Rattle.desk.specs.declared.Desk.{Desk}
-use Rattle.desk.specs.declared.Finish.{Finish}
+use Rattle.desk_records.specs.declared.Finish.{Finish}
 use Rattle.desk.specs.declared.Moved.{Moved}
 use Rattle.desk.specs.declared.Told.{Told}
 use Rattle.desk.specs.declared.Listed.{Listed}
-use Rattle.desk.specs.Record.{empty, suits}
-use Rattle.desk.specs.Moves.{Move, opening, feeding, starting, finishing, taking, killing, closing}
+use Rattle.desk_records.specs.Record.{empty, suits}
+use Rattle.desk_records.specs.Moves.{Move, opening, feeding, starting, finishing, taking, killing, closing}
 use Rattle.desk.specs.Desk.{place, sound, has, recordOf, put}
 use Rattle.desk.specs.Listing.{numbers, rising, thenZeros}
 
@@ -56,7 +58,7 @@ unfoldable pub callNumber : Desk → ℕ → Move → ℕ
 callNumber d n m =
     admit d n λ _.
     unless (has n d) noSuchNumber λ _.
-    unless (m .allowed (recordOf n d .state)) notAllowed λ _.
+    unless (m .allowed (recordOf n d)) notAllowed λ _.
     unless (m .fits (recordOf n d)) amountWrong λ _.
     accepted
 
@@ -99,6 +101,11 @@ fedStore d store n piece =
     choose (eqb (feedNumber d store n piece) accepted)
     (λ _. paste store (keptFrom d n) piece (length piece))
     (λ _. store)
+
+-- the contract of feed, the one call that is lent the store
+pub record Fed (d : Desk) (store : List ℕ) (n : ℕ) (piece : List ℕ) (r : Moved) (after : List ℕ) : Type 0 where
+  pub moved : r ≡ fed d store n piece
+  pub stored : after ≡ fedStore d store n piece
 
 -- 24 is for "other calls but status".
 unfoldable pub statusNumber : Desk → ℕ → ℕ

@@ -1,27 +1,33 @@
 // What a call tests before it moves a record: the numbers 20 to 27, in the paper's order.
 use crate::Desk;
 use crate::Gate;
-use crate::records::sound_record;
-use terms::ACCEPTED;
-use terms::ALL_TAKEN;
-use terms::AMOUNT_WRONG;
-use terms::DESK_MOST;
-use terms::IN_USE;
-use terms::NO_SUCH_NUMBER;
-use terms::NOT_ALLOWED;
-use terms::NOT_SOUND;
-use terms::NUMBER_ZERO;
-use terms::OPEN_WRONG;
+use desk_records::records::NEEDS_INPUT;
+use desk_records::records::room;
+use desk_records::records::sound_record;
+use desk_records::tests::and;
+use desk_records::tests::or;
+use desk_records::tests::within;
+use paper::ACCEPTED;
+use paper::ALL_TAKEN;
+use paper::AMOUNT_WRONG;
+use paper::DESK_MOST;
+use paper::IN_USE;
+use paper::NO_SUCH_NUMBER;
+use paper::NOT_ALLOWED;
+use paper::NOT_SOUND;
+use paper::NUMBER_ZERO;
+use paper::OPEN_WRONG;
 ghost use mathlib.Core.Path.{_≡_};
-ghost use Prim.Native.Nat.{_≤_};
+ghost use Prim.Native.Nat.{_≤_, _<_};
 ghost use lib.ListN.{drop};
-ghost use Rattle.desk.specs.Desk.{fresh, sound};
+ghost use Rattle.paper.specs.Limits.{deskMost};
+ghost use Rattle.desk.specs.Desk.{alone, sound, soundRecords};
 ghost use Rattle.desk.specs.Calls.{statusNumber};
-ghost use Rattle.desk.specs.Met.{Found, Gated, judged, openJudged};
+ghost use Rattle.desk.specs.Met.{placeSound, Found, Gated, FeedGated, refusalOfCall, refusalOfOpen};
 
 // The lowest place from `from` on whose record has the number n, or 8.
 pub fn find(d: Desk, n: u16, from: usize) -> usize
-    requires { ⌜ from ≤ 8 ⌝ }
+    requires { ⌜ from ≤ deskMost ⌝ }
     ensures { λ p. ⌜ Found d n from p ⌝ }
 {
     let mut i = from;
@@ -34,32 +40,40 @@ pub fn find(d: Desk, n: u16, from: usize) -> usize
     i
 }
 
-pub fn fresh(d: Desk, n: u16, from: usize) -> bool
-    requires { ⌜ from ≤ 8 ⌝ }
-    ensures { λ b. ⌜ b ≡ fresh n (drop from (d .records)) ⌝ }
+// No record from `from` on has the number n, or it is 0.
+pub fn alone(d: Desk, n: u16, from: usize) -> bool
+    requires { ⌜ from ≤ deskMost ⌝ }
+    ensures { λ b. ⌜ b ≡ alone n (drop from (d .records)) ⌝ }
 {
-    if n == 0 {
-        return true;
-    }
     let p = find(d, n, from);
-    p >= DESK_MOST
+    or(n == 0, p >= DESK_MOST)
 }
 
-pub fn sound(d: Desk) -> bool
-    ensures { λ b. ⌜ b ≡ sound d ⌝ }
+pub fn place_sound(d: Desk, i: usize) -> bool
+    requires { ⌜ i < deskMost ⌝ }
+    ensures { λ b. ⌜ b ≡ placeSound (d .records) i ⌝ }
+{
+    let r = d.records[i];
+    and(sound_record(r), alone(d, r.number, i + 1))
+}
+
+pub fn sound_records(d: Desk) -> bool
+    ensures { λ b. ⌜ b ≡ soundRecords (d .records) ⌝ }
 {
     let mut i: usize = 0;
     while i < DESK_MOST {
-        let r = d.records[i];
-        if !sound_record(r) {
-            return false;
-        }
-        if !fresh(d, r.number, i + 1) {
+        if !place_sound(d, i) {
             return false;
         }
         i += 1;
     }
     true
+}
+
+pub fn sound(d: Desk) -> bool
+    ensures { λ b. ⌜ b ≡ sound d ⌝ }
+{
+    sound_records(d)
 }
 
 // What every call that names an operation tests first: 20, 21.
@@ -99,8 +113,8 @@ pub fn reach(d: Desk, number: u16) -> Gate
 }
 
 // What a call that names a known operation tests past the gate: 25, 27.
-pub fn judge(gate: u8, allowed: bool, fits: bool) -> u8
-    ensures { λ r. ⌜ r ≡ judged gate allowed fits ⌝ }
+pub fn refusal_of_call(gate: u8, allowed: bool, fits: bool) -> u8
+    ensures { λ r. ⌜ r ≡ refusalOfCall gate allowed fits ⌝ }
 {
     if gate != ACCEPTED {
         return gate;
@@ -115,8 +129,8 @@ pub fn judge(gate: u8, allowed: bool, fits: bool) -> u8
 }
 
 // What open tests past 20 and 21: 22, 26, 23.
-pub fn judge_open(refusal: u8, used: bool, suited: bool, full: bool) -> u8
-    ensures { λ r. ⌜ r ≡ openJudged refusal used suited full ⌝ }
+pub fn refusal_of_open(refusal: u8, used: bool, suited: bool, full: bool) -> u8
+    ensures { λ r. ⌜ r ≡ refusalOfOpen refusal used suited full ⌝ }
 {
     if refusal != ACCEPTED {
         return refusal;
@@ -131,4 +145,22 @@ pub fn judge_open(refusal: u8, used: bool, suited: bool, full: bool) -> u8
         return ALL_TAKEN;
     }
     ACCEPTED
+}
+
+// What feed finds out first: the tests up to 27, with the operation's place.
+pub fn reach_feed(d: Desk, number: u16, count: usize) -> Gate
+    ensures { λ g. ⌜ FeedGated d number count g ⌝ }
+{
+    let g = reach(d, number);
+    let p = g.at;
+    let r = d.records[p];
+    let refusal = refusal_of_call(
+        g.number,
+        r.state == NEEDS_INPUT,
+        within(1, count, room(r) as usize),
+    );
+    Gate {
+        number: refusal,
+        at: p,
+    }
 }

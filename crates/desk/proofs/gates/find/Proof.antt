@@ -1,6 +1,7 @@
 -- `desk::gates::find` meets its contract. The loop keeps that no place before i has the number.
 -- Assumes nothing.
 use Prim.Native.Nat.{_-_}
+use Rattle.paper.specs.Limits.{deskMost}
 use Rattle.desk.specs.Met.{Seeking}
 use Rattle.desk.proofs.Scanning.{seeks}
 use borrow.Author.Needs.{needs}
@@ -11,7 +12,7 @@ abbrev Inv-loop : tie.InvT-loop
 Inv-loop n from d i₀ i = Seeking d n from i
 
 abbrev μ-loop : tie.MeasureT-loop
-μ-loop n from d i₀ i = 8 - i
+μ-loop n from d i₀ i = deskMost - i
 
 pub find-spec : {M : Type 1} → statement M
 find-spec =
