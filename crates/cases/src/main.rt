@@ -1,100 +1,11 @@
 // Runs document 01's case file on standard input: "one case a line, fields parted by tabs (name, dictionary hex, payload hex, budget), and
 // writes name, number, and the text or, refused, the place".
-ghost use Prim.Native.Nat.{_≤_};
-ghost use lib.ListN.{length};
-ghost use Rattle.lines.specs.Met.{Stands};
+use bench_cases::Way;
+use paper::TEXT_MOST;
 
-// The line's name, the number, and the text or the place.
-fn add_answer(out: &mut [u8], pos: usize, line: &[u8], a: terms::Answer, text: &[u8]) -> usize
-    requires { ⌜ pos ≤ length (now out) ⌝ }
-    ensures { λ r. ⌜ r ≤ length (now (out .entry)) ⌝ }
-{
-    let p = lines::add_name(out, pos, line);
-    let q = lines::add_decimal(out, p, a.number as u64);
-    let r = lines::add(out, q, b"\t");
-    if a.number == 0 {
-        return lines::add_front(out, r, text, a.length);
-    }
-    lines::add_decimal(out, r, a.place as u64)
-}
-
-fn answer(
-    line: &[u8],
-    dictionary: &mut [u8],
-    payload: &mut [u8],
-    text: &mut [u8],
-    out: &mut [u8],
-    pos: usize,
-) -> usize
-    requires { ⌜ pos ≤ length (now out) ⌝ }
-    ensures { λ r. ⌜ r ≤ length (now (out .entry)) ⌝ }
-{
-    let c = lines::read_case(line, dictionary, payload);
-    if !c.good {
-        return lines::add_malformed(out, pos, line);
-    }
-    let d = c.dictionary;
-    let s = c.bytes;
-    let a = reader::read(&dictionary[..d], &payload[..s], c.number as usize, text);
-    let p = add_answer(out, pos, line, a, text);
-    lines::add(out, p, b"\n")
-}
-
-// An empty line is passed over.
-fn answer_line(
-    buf: &[u8],
-    c: lines::Cursor,
-    dictionary: &mut [u8],
-    payload: &mut [u8],
-    text: &mut [u8],
-    out: &mut [u8],
-    pos: usize,
-) -> usize
-    requires { ⌜ Stands (length (now buf)) c × (pos ≤ length (now out)) ⌝ }
-    ensures { λ r. ⌜ r ≤ length (now (out .entry)) ⌝ }
-{
-    let from = c.from;
-    let end = c.end;
-    if c.long {
-        return lines::add_malformed(out, pos, &buf[from..end]);
-    }
-    if from == end {
-        return pos;
-    }
-    answer(&buf[from..end], dictionary, payload, text, out, pos)
-}
-
-// Answers every line, and says how many bytes of output are then gathered and not yet written.
-fn run(
-    buf: &mut [u8],
-    dictionary: &mut [u8],
-    payload: &mut [u8],
-    text: &mut [u8],
-    out: &mut [u8],
-) -> usize
-    ensures { λ r. ⌜ r ≤ length (now (out .entry)) ⌝ }
-{
-    let mut c = lines::start();
-    let mut pos: usize = 0;
-    let mut turns = u64::MAX;
-    while turns > 0 {
-        turns -= 1;
-        c = lines::next_line(buf, c);
-        if c.ended {
-            return pos;
-        }
-        pos = answer_line(buf, c, dictionary, payload, text, out, pos);
-    }
-    pos
-}
-
-// "the output buffer has 65,535 bytes"; in hex, no more than half a line.
+// "the output buffer has 65,535 bytes"
 fn main() {
-    let mut buf = io::large_buffer();
-    let mut out = io::large_buffer();
-    let mut dictionary = [0u8; 32768];
-    let mut payload = [0u8; 32768];
-    let mut text = [0u8; 65535];
-    let pos = run(&mut buf, &mut dictionary, &mut payload, &mut text, &mut out);
-    lines::send(&out, pos);
+    let mut text = [0u8; TEXT_MOST];
+    let way = Way::Read;
+    bench_cases::run_file(way, &mut text);
 }

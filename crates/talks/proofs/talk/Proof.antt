@@ -1,6 +1,6 @@
 -- `talks::talk` meets its contract. Lines and gathered output stay inside their buffers; input may be without end, so that the turns are counted.
 -- Assumes nothing.
-use Rattle.lines.specs.Met.{Stands}
+use Rattle.bench_lines.specs.Met.{Stands}
 use mathlib.Core.Path.{_≡_}
 use Prim.Native.Nat.{_≤_, _<_, _^_}
 use lib.ListN.{length}
