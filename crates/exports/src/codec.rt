@@ -1,5 +1,5 @@
 // Reader and writer for callers in C. Each answers the number; what it leaves in each lent buffer stands in specs/Exported.antt.
-use terms::Answer;
+use paper::Answer;
 ghost use mathlib.Core.Path.{_≡_};
 ghost use lib.ListN.{length, set};
 ghost use Rattle.payload.specs.Reading.{reads};

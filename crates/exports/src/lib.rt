@@ -2,17 +2,28 @@
 mod codec;
 mod operations;
 
+use paper::ACCEPTED;
+use paper::DICTIONARY_WRONG;
 ghost use mathlib.Core.Path.{_≡_};
-ghost use mathlib.Core.Bool.{cond};
-ghost use Rattle.dictionary.specs.Accepts.{accepts};
+ghost use Rattle.exports.specs.Exported.{checked, version};
 
-// 1 where the bytes are a dictionary that document 01 accepts, 0 where they aren't.
+const VERSION: u32 = 256;
+
+// The version that include/broachvale.h names.
 #[no_mangle]
-pub extern "C" fn broachvale_dictionary_accepts(d: &[u8]) -> u32
-    ensures { λ r. ⌜ r ≡ cond (accepts (now (d .entry))) 1 0 ⌝ }
+pub extern "C" fn broachvale_version() -> u32
+    ensures { λ r. ⌜ r ≡ version ⌝ }
 {
-    if checker::judge(d) {
-        return 1;
+    VERSION
+}
+
+// "1: dictionary not accepted (tested first)": as every other entry, 0 where all is right.
+#[no_mangle]
+pub extern "C" fn broachvale_dictionary_check(d: &[u8]) -> u32
+    ensures { λ r. ⌜ r ≡ checked (now (d .entry)) ⌝ }
+{
+    if checker::accepts(d) {
+        return ACCEPTED as u32;
     }
-    0
+    DICTIONARY_WRONG as u32
 }

@@ -1,6 +1,6 @@
 -- `exports::codec::lay` meets its contract.
 -- Assumes nothing.
-use Rattle.terms.proofs.Lending.{lay-past}
+use Rattle.paper.proofs.Lending.{lay-past}
 use borrow.Author.Needs.{needs}
 use Rattle.exports.proofs.codec.lay.Statement.{statement}
 use Rattle.exports.proofs.codec.lay.Tie as tie

@@ -6,7 +6,7 @@ use Prim.Native.Char.{Char, code}
 use Prim.Native.String.{String, [] as ends, _∷_ as _then_}
 use mathlib.Core.List.{List, [], _∷_}
 use lib.Dec.{leb}
-use Rattle.terms.specs.Checks.{choose}
+use Rattle.paper.specs.Checks.{choose}
 
 unfoldable pub ascii : String → List ℕ
 ascii ends = []

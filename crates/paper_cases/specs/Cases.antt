@@ -4,27 +4,29 @@
 use Prim.Native.Nat.{ℕ}
 use Prim.Native.String.{String}
 use mathlib.Core.List.{List, [], _∷_, _++_, map}
-use lib.ListN.{length, replicate}
-use Rattle.terms.specs.Limits.{textMost, payloadMost, deskMost}
-use Rattle.terms.specs.declared.Answer.{Answer}
+use lib.ListN.{length}
+use Rattle.paper.specs.Limits.{textMost, payloadMost}
+use Rattle.paper.specs.declared.Answer.{Answer}
 use Rattle.payload.specs.Reading.{Outcome, reads, answerOf, contentsOf}
 use Rattle.text.specs.Writing.{writes}
 use Rattle.desk.specs.declared.Desk.{Desk}
 use Rattle.desk.specs.declared.Moved.{Moved}
-use Rattle.desk.specs.Record.{empty, read}
+use Rattle.desk_records.specs.Record.{read}
+use Rattle.desk.specs.Desk.{freshDesk}
 use Rattle.desk.specs.Calls.{opened, killed, closed}
-use Rattle.worked.specs.Spelling.{ascii, hex}
-use Rattle.worked.specs.Figure6.{figure6}
+use Rattle.paper_cases.specs.Spelling.{ascii, hex}
+use Rattle.paper_cases.specs.Figure6.{figure6}
 
 pub data Call : Type 0 where
   opens : ℕ → Call
   kills : ℕ → Call
   closes : ℕ → Call
 
--- a payload with the budget; a text; calls
+-- a payload with the budget; a text; a text under another dictionary, with the room; calls
 pub data Question : Type 0 where
   reading : List ℕ → ℕ → Question
   writing : List ℕ → Question
+  writingUnder : List ℕ → List ℕ → ℕ → Question
   calling : List Call → Question
 
 -- the answer, and the text or payload that was written; or each call's number, and the numbers that stand in the eight places after them all
@@ -46,9 +48,6 @@ unfoldable pub deskAfter : Desk → List Call → Desk
 deskAfter d [] = d
 deskAfter d (c ∷ calls) = deskAfter (made d c .desk) calls
 
-abbrev pub emptyDesk : Desk
-emptyDesk = record { records = replicate deskMost empty }
-
 abbrev pub outcome : Outcome → Reply
 outcome o = wrote (answerOf o) (contentsOf o [])
 
@@ -56,7 +55,8 @@ outcome o = wrote (answerOf o) (contentsOf o [])
 unfoldable pub answer : Question → Reply
 answer (reading payload budget) = outcome (reads figure6 payload budget textMost)
 answer (writing text) = outcome (writes figure6 text payloadMost)
-answer (calling calls) = moved (numbersOf emptyDesk calls) (map (λ r. r .number) (deskAfter emptyDesk calls .records))
+answer (writingUnder d text room) = outcome (writes d text room)
+answer (calling calls) = moved (numbersOf freshDesk calls) (map (λ r. r .number) (deskAfter freshDesk calls .records))
 
 -- so many tuples, and the text or payload
 abbrev pub gives : ℕ → List ℕ → Reply

@@ -2,12 +2,12 @@
 -- Assumes nothing.
 use mathlib.Core.Path.{_≡_, refl}
 use mathlib.Core.Bool.{true}
-use Rattle.terms.specs.Tests.{all, same}
+use Rattle.paper.specs.Tests.{all, same}
 use Rattle.numbers.specs.Bytes.{short, long}
 use Rattle.dictionary.specs.Rows.{name}
 use Rattle.dictionary.specs.Accepts.{headerFine, childless, blockFine, inTurn, unlike, member, stringChild, setFine, arrayFine, enumFine, leafForm, childrenFine, nameByte, nameFine, rowFine, accepts}
-use Rattle.worked.specs.Spelling.{ascii, digit, hex}
-use Rattle.worked.specs.Figure6.{figure6, table44, rowsFrom, rowsOf}
+use Rattle.paper_cases.specs.Spelling.{ascii, digit, hex}
+use Rattle.paper_cases.specs.Figure6.{figure6, table44, rowsFrom, rowsOf}
 
 pub figure6-accepted : accepts figure6 ≡ true
 unfolding digit hex figure6 all same short long name

@@ -1,3 +1,4 @@
 pub mod Spelling
 pub mod Figure6
 pub mod Cases
+pub mod Further

@@ -7,12 +7,12 @@ use Prim.Native.String.{String}
 use mathlib.Core.List.{List, [], _∷_, _++_}
 use mathlib.Core.Bool.{Bool, true, false}
 use lib.Dec.{eqb}
-use Rattle.terms.specs.Checks.{choose}
+use Rattle.paper.specs.Checks.{choose}
 use Rattle.dictionary.specs.declared.Child.{Child}
 use Rattle.dictionary.specs.declared.Child.the-variants.{At, Nothing}
 use Rattle.dictionary.specs.Formats.{setForm, arrayForm, integerForm, enumForm, stringForm, booleanForm}
 use Rattle.dictionary.specs.Rows.{entries, form, kind, nullable, numberIn, childOffset, childCount, firstChild, name}
-use Rattle.worked.specs.Spelling.{ascii, hex}
+use Rattle.paper_cases.specs.Spelling.{ascii, hex}
 
 -- Line by line as in the figure. "The crawl put a stray 00 into each line from the seventh, in two before the last byte; lines have 8 bytes, the last 2." So of its nine bytes
 -- the tenth line (74 ..) and the fifteenth (50 02 ..) lose the eighth, the others the ninth, and the last line all that follow its two.
