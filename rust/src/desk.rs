@@ -7,7 +7,7 @@ pub const PLACES: usize = 8;
 pub const PLACE_BYTES: usize = 4_096;
 pub const STORE_BYTES: usize = PLACES * PLACE_BYTES;
 pub const DESK_BYTES: usize = PLACES * RECORD_BYTES;
-const RECORD_BYTES: usize = 16;
+pub const RECORD_BYTES: usize = 16;
 
 #[derive(Clone, Copy, Debug, Default, PartialEq, Eq)]
 pub struct Record {
@@ -29,7 +29,7 @@ impl Record {
         bytes
     }
 
-    fn of(bytes: &[u8]) -> Record {
+    pub fn of(bytes: &[u8]) -> Record {
         let count = |at: usize| u32::from_le_bytes(bytes[at..at + 4].try_into().expect("four"));
         Record {
             number: u16::from_le_bytes([bytes[0], bytes[1]]),
@@ -78,6 +78,9 @@ pub enum Call<'a> {
     Status(u16),
     List,
 }
+
+/// How many numbers status tells: state, received, due.
+pub const STATUS: usize = 3;
 
 /// What a call answers: its number, and what status or list tell.
 #[derive(Debug, PartialEq, Eq)]

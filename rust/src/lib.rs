@@ -5,12 +5,18 @@
 //! - `proved`: the proved functions, called through their C boundary.
 //! - `figure`: the dictionary of DSP0218's Figure 6.
 //! - `make`: dictionaries and payloads for both to judge: ordinary, small, hostile and damaged ones.
-//! - `trial`: what the comparisons share. `timing`: ratios of times taken in one run.
+//! - `cases`: cases drawn at random for whoever judges them. `trial`: comparisons of both on them. `guard`: the memory that
+//!   their buffers are lent from.
+//! - `lines`: the lines of the bench's programs, and what the rivals answer to them.
+//! - `timing`: ratios of times taken in one run.
 //! - `random`: the numbers that the makers draw, the same for the same seed on every machine.
 
+pub mod cases;
 pub mod desk;
 pub mod dictionary;
 pub mod figure;
+pub mod guard;
+pub mod lines;
 pub mod make;
 pub mod proved;
 pub mod random;

@@ -3,8 +3,12 @@
 use crate::desk::{self, Call};
 use crate::reader::Answer;
 
+/// How many numbers a reader or a writer tells: place, count, length.
+pub const TOLD: usize = 3;
+
 extern "C" {
-    fn broachvale_dictionary_accepts(dictionary: *const u8, length: usize) -> u32;
+    fn broachvale_version() -> u32;
+    fn broachvale_dictionary_check(dictionary: *const u8, length: usize) -> u32;
     fn broachvale_read(
         dictionary: *const u8,
         dictionary_length: usize,
@@ -55,17 +59,27 @@ extern "C" {
 /// Whether the proved checker accepts the dictionary.
 pub fn dictionary_accepts(dictionary: &[u8]) -> bool {
     // SAFETY: the pointer and the length are those of one slice, which the checker only reads.
-    let answer = unsafe { broachvale_dictionary_accepts(dictionary.as_ptr(), dictionary.len()) };
+    let answer = unsafe { broachvale_dictionary_check(dictionary.as_ptr(), dictionary.len()) };
     match answer {
-        0 => false,
-        1 => true,
-        other => panic!("the dictionary checker answers 0 or 1, not {other}"),
+        0 => true,
+        1 => false,
+        other => panic!("the dictionary's check answers 0 or 1, not {other}"),
     }
 }
 
 /// What the proved reader answers and writes.
 pub fn read(dictionary: &[u8], payload: &[u8], budget: usize, text: &mut [u8]) -> Answer {
-    let mut told = [0; 3];
+    read_telling(dictionary, payload, budget, text, &mut [0; TOLD])
+}
+
+/// The same, with the row for place, count and length lent too.
+pub fn read_telling(
+    dictionary: &[u8],
+    payload: &[u8],
+    budget: usize,
+    text: &mut [u8],
+    told: &mut [usize],
+) -> Answer {
     // SAFETY: each pointer and the length after it are those of one slice; the two that are written are lent to nobody else.
     let number = unsafe {
         broachvale_read(
@@ -80,13 +94,21 @@ pub fn read(dictionary: &[u8], payload: &[u8], budget: usize, text: &mut [u8]) -
             told.len(),
         )
     };
-    let [place, count, length] = told;
-    Answer { number, place, count, length }
+    Answer { number, place: told[0], count: told[1], length: told[2] }
 }
 
 /// What the proved writer answers and writes.
 pub fn write(dictionary: &[u8], text: &[u8], payload: &mut [u8]) -> Answer {
-    let mut told = [0; 3];
+    write_telling(dictionary, text, payload, &mut [0; TOLD])
+}
+
+/// The same, with the row for place, count and length lent too.
+pub fn write_telling(
+    dictionary: &[u8],
+    text: &[u8],
+    payload: &mut [u8],
+    told: &mut [usize],
+) -> Answer {
     // SAFETY: as for `read`.
     let number = unsafe {
         broachvale_write(
@@ -100,15 +122,18 @@ pub fn write(dictionary: &[u8], text: &[u8], payload: &mut [u8]) -> Answer {
             told.len(),
         )
     };
-    let [place, count, length] = told;
-    Answer { number, place, count, length }
+    Answer { number, place: told[0], count: told[1], length: told[2] }
+}
+
+/// Rows for what status and list tell.
+pub struct Rows<'a> {
+    pub status: &'a mut [u32],
+    pub list: &'a mut [u16],
 }
 
 /// What the proved desk answers to a call; desk and store are as it leaves them.
-pub fn desk(desk: &mut [u8], store: &mut [u8], call: Call) -> desk::Answer {
+pub fn desk(desk: &mut [u8], store: &mut [u8], call: Call, rows: Rows) -> desk::Answer {
     let (bytes, size) = (desk.as_mut_ptr(), desk.len());
-    let mut told = [0; 3];
-    let mut operations = [0; desk::PLACES];
     // SAFETY: each pointer and the length after it are those of one slice; those that are written are lent to nobody else.
     let number = unsafe {
         match call {
@@ -132,13 +157,13 @@ pub fn desk(desk: &mut [u8], store: &mut [u8], call: Call) -> desk::Answer {
             Call::Take(number, n) => broachvale_desk_take(bytes, size, number, n),
             Call::Kill(number) => broachvale_desk_kill(bytes, size, number),
             Call::Close(number) => broachvale_desk_close(bytes, size, number),
-            Call::Status(number) => desk_status(desk, number, &mut told),
-            Call::List => desk_list(desk, &mut operations),
+            Call::Status(number) => desk_status(desk, number, rows.status),
+            Call::List => desk_list(desk, rows.list),
         }
     };
     let told = match call {
-        Call::Status(_) if number == 0 => told.to_vec(),
-        Call::List if number == 0 => operations.map(u32::from).to_vec(),
+        Call::Status(_) if number == 0 => rows.status.to_vec(),
+        Call::List if number == 0 => rows.list.iter().copied().map(u32::from).collect(),
         _ => Vec::new(),
     };
     desk::Answer { number, told }
@@ -154,4 +179,10 @@ pub fn desk_status(desk: &[u8], number: u16, told: &mut [u32]) -> u32 {
 pub fn desk_list(desk: &[u8], told: &mut [u16]) -> u32 {
     // SAFETY: each pointer and the length after it are those of one slice.
     unsafe { broachvale_desk_list(desk.as_ptr(), desk.len(), told.as_mut_ptr(), told.len()) }
+}
+
+/// The library's version, as the header writes one.
+pub fn version() -> u32 {
+    // SAFETY: it takes nothing.
+    unsafe { broachvale_version() }
 }

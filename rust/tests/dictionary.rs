@@ -1,38 +1,19 @@
 //! The proved dictionary checker against the rival, which was written apart from it, and against
 //! the answers that document 01 gives.
 
+use trials::cases::{self, Codec};
 use trials::dictionary::{ENTRY, HEADER, MOST, SET, STRING};
 use trials::make::draft::{Draft, Row};
 use trials::make::hostile::{families, family, Ending, Hostile};
-use trials::make::{damage, ordinary, small};
-use trials::random::Random;
-use trials::{dictionary, figure, proved};
+use trials::make::ordinary;
+use trials::trial::{draw, Trial};
+use trials::{figure, proved};
 
-/// The answer, where both checkers give the same one.
-fn judged(bytes: &[u8], what: impl Fn() -> String) -> bool {
-    let accepted = dictionary::accepts(bytes);
-    assert_eq!(proved::dictionary_accepts(bytes), accepted, "proved, rival: {}", what());
-    accepted
-}
-
-#[derive(Default)]
-struct Tally {
-    compared: usize,
-    accepted: usize,
-}
-
-impl Tally {
-    fn judge(&mut self, bytes: &[u8], what: impl Fn() -> String) {
-        self.compared += 1;
-        self.accepted += usize::from(judged(bytes, what));
-    }
-
-    /// A comparison that sees one answer only says little.
-    fn both_answers_are_frequent(&self, what: &str) {
-        let Tally { compared, accepted } = *self;
-        println!("{what}: {compared} compared, {accepted} of them accepted");
-        assert!(accepted * 20 > compared && (compared - accepted) * 20 > compared);
-    }
+/// A comparison that sees one answer only says little.
+fn both_answers_are_frequent(trial: &Trial, what: &str) {
+    let (compared, accepted) = (trial.seen.total(), trial.seen.times(0));
+    println!("{what}: {compared} compared, {accepted} of them accepted");
+    assert!(accepted * 20 > compared && (compared - accepted) * 20 > compared);
 }
 
 fn with_size(bytes: &[u8], size: usize) -> Vec<u8> {
@@ -49,20 +30,21 @@ fn resized(bytes: &[u8], length: usize) -> Vec<u8> {
 
 #[test]
 fn figure_6_is_accepted() {
-    assert!(judged(&figure::bytes(), || "Figure 6".to_string()));
+    let mut trial = Trial::default();
+    assert!(trial.accepts(&figure::bytes()));
 }
 
 #[test]
 fn figure_6_with_each_byte_changed() {
-    let mut tally = Tally::default();
+    let mut trial = Trial::default();
     for at in 0..figure::bytes().len() {
         for change in 1..=255 {
             let mut bytes = figure::bytes();
             bytes[at] ^= change;
-            tally.judge(&bytes, || format!("byte {at} is {:02x}", bytes[at]));
+            trial.accepts(&bytes);
         }
     }
-    tally.both_answers_are_frequent("Figure 6 with one byte changed");
+    both_answers_are_frequent(&trial, "Figure 6 with one byte changed");
 }
 
 /// Figure 6 with the bytes of one field of a row, or of the header, put in place of its own.
@@ -119,40 +101,43 @@ const CASES: [Case; 33] = [
 
 #[test]
 fn figure_6_with_fields_that_the_paper_answers() {
+    let mut trial = Trial::default();
     for Case { says, at, bytes, accepted } in CASES {
         let mut dictionary = figure::bytes();
         dictionary[at..at + bytes.len()].copy_from_slice(bytes);
-        assert_eq!(judged(&dictionary, || says.to_string()), accepted, "{says}");
+        assert_eq!(trial.accepts(&dictionary), accepted, "{says}");
     }
 }
 
 /// The last byte of the entries is a letter here, and still no part of a name.
 #[test]
 fn a_name_lies_after_the_entries() {
+    let mut trial = Trial::default();
     let mut draft = Draft::default();
     let first = draft.add_name(b"bc");
     draft.names.resize(0x4100 - row(2), 0);
     let second = draft.add_name(b"x");
     draft.rows = vec![Row::new(SET, 0, Some(first)), Row::new(STRING, 0, Some(second))];
     let mut bytes = draft.bytes(draft.size());
-    assert!(judged(&bytes, || "a name right after the entries".to_string()));
+    assert!(trial.accepts(&bytes));
     assert_eq!(bytes[row(2) - 1], b'A');
     bytes[row(0) + 7] += 1;
     bytes[row(0) + 8] -= 1;
-    assert!(!judged(&bytes, || "a name from the entries' last byte".to_string()));
+    assert!(!trial.accepts(&bytes));
 }
 
 #[test]
 fn each_short_length() {
+    let mut trial = Trial::default();
     let named = *b"\0\0\x01\0\0\xF0\xF0\xF1\0\0\0\0\0\0\0\x0C\0\x01\0\x02\x16\0a\0";
     let nameless = *b"\0\0\x01\0\0\xF0\xF0\xF1\0\0\0\0";
     for length in 0..=30 {
-        assert!(!judged(&vec![0; length], || format!("{length} times 00")));
-        assert!(!judged(&figure::bytes()[..length], || format!("{length} of Figure 6")));
+        assert!(!trial.accepts(&vec![0; length]));
+        assert!(!trial.accepts(&figure::bytes()[..length]));
         if length >= HEADER {
-            let accepted = judged(&resized(&named, length), || format!("a set, {length} bytes"));
+            let accepted = trial.accepts(&resized(&named, length));
             assert_eq!(accepted, length >= 24);
-            let accepted = judged(&resized(&nameless, length), || format!("no name, {length}"));
+            let accepted = trial.accepts(&resized(&nameless, length));
             assert_eq!(accepted, length >= 22);
         }
     }
@@ -160,9 +145,10 @@ fn each_short_length() {
 
 #[test]
 fn lengths_about_the_most() {
+    let mut trial = Trial::default();
     let most = ordinary::dictionary(MOST, 1);
     for length in [MOST - 1, MOST, MOST + 1, MOST + 2, 2 * MOST, 2 * MOST + 2, 1 << 20] {
-        let accepted = judged(&resized(&most, length), || format!("{length} bytes"));
+        let accepted = trial.accepts(&resized(&most, length));
         assert_eq!(accepted, length <= MOST, "{length} bytes");
     }
 }
@@ -170,56 +156,33 @@ fn lengths_about_the_most() {
 /// Sizes that are right in their low 16 bits, and counts of entries beyond 16 bits' reach.
 #[test]
 fn sizes_and_counts_of_more_bits() {
+    let mut trial = Trial::default();
     for round in 1..=3 {
         let size = figure::bytes().len() + (round << 16);
-        assert!(!judged(&with_size(&figure::bytes(), size), || format!("size {size}")));
-        assert!(!judged(&resized(&figure::bytes(), size), || format!("{size} bytes")));
+        assert!(!trial.accepts(&with_size(&figure::bytes(), size)));
+        assert!(!trial.accepts(&resized(&figure::bytes(), size)));
     }
     for count in [6_552_u16, 6_553, 6_554, u16::MAX] {
         let mut bytes = resized(&[0; HEADER], MOST);
         bytes[2..4].copy_from_slice(&count.to_le_bytes());
-        assert_eq!(judged(&bytes, || format!("{count} empty sets")), count == 6_552);
+        assert_eq!(trial.accepts(&bytes), count == 6_552);
     }
 }
 
 #[test]
 fn ordinary_ones() {
+    let mut trial = Trial::default();
     let sizes = (0..4_000).map(|round| 60 + (round * 37) % 4_000);
     for (seed, size) in sizes.chain([10_240; 20]).chain([MOST; 20]).enumerate() {
         let bytes = ordinary::dictionary(size, seed as u64);
-        assert!(judged(&bytes, || format!("seed {seed}, size {size}")));
+        assert!(trial.accepts(&bytes));
     }
 }
 
 #[test]
-fn small_ones() {
-    for slips in [0, 5, 20] {
-        let mut random = Random::new(11 + slips as u64);
-        let mut tally = Tally::default();
-        for round in 0..100_000 {
-            let bytes = small::dictionary(&mut random, slips);
-            tally.judge(&bytes, || format!("round {round}: {bytes:02x?}"));
-        }
-        tally.both_answers_are_frequent(&format!("small ones with slips of {slips} in a hundred"));
-    }
-}
-
-#[test]
-fn damaged_ones() {
-    let mut random = Random::new(17);
-    let mut tally = Tally::default();
-    for seed in 0..400 {
-        let good = ordinary::dictionary(random.between(60, 3_000), seed);
-        for round in 0..60 {
-            let bytes = damage::damaged(&good, &mut random);
-            tally.judge(&bytes, || format!("seed {seed}, round {round}"));
-        }
-    }
-    for round in 0..60_000 {
-        let bytes = damage::damaged(&figure::bytes(), &mut random);
-        tally.judge(&bytes, || format!("Figure 6, round {round}: {bytes:02x?}"));
-    }
-    tally.both_answers_are_frequent("damaged ones");
+fn drawn_ones() {
+    let drawn = draw(11, cases::dictionaries, &cases::CHECKED);
+    both_answers_are_frequent(&drawn, "drawn ones");
 }
 
 fn hostile(size: usize, rows: &[usize], letters: &[usize], mut judge: impl FnMut(Hostile, &[u8])) {
@@ -232,11 +195,11 @@ fn hostile(size: usize, rows: &[usize], letters: &[usize], mut judge: impl FnMut
 
 #[test]
 fn hostile_ones() {
-    let mut tally = Tally::default();
-    hostile(4_000, &[2, 3, 17, 90, 200], &[2, 8, 30, 254], |hostile, bytes| {
-        tally.judge(bytes, || format!("{hostile:?}"));
+    let mut trial = Trial::default();
+    hostile(4_000, &[2, 3, 17, 90, 200], &[2, 8, 30, 254], |_, bytes| {
+        trial.accepts(bytes);
     });
-    tally.both_answers_are_frequent("hostile ones");
+    both_answers_are_frequent(&trial, "hostile ones");
 }
 
 /// The rival would take the cube of the row count here; how each was made says what it must answer.

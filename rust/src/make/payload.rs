@@ -195,6 +195,14 @@ pub fn wide_dictionary(count: usize) -> Vec<u8> {
     draft.bytes(draft.size())
 }
 
+/// A dictionary of one set whose one member, "a", is itself.
+pub fn deep_dictionary() -> Vec<u8> {
+    let mut draft = Draft::default();
+    let name = draft.add_name(b"a");
+    draft.rows = vec![Drafted::new(SET, 0, Some(name)).with_children(0, 1)];
+    draft.bytes(draft.size())
+}
+
 /// A dictionary of one set whose one member is an array of integers.
 pub fn array_dictionary() -> Vec<u8> {
     let mut draft = Draft::default();

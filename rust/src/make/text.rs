@@ -87,11 +87,10 @@ pub fn damaged(good: &[u8], random: &mut Random) -> Vec<u8> {
 
 /// What stands between a colon and the next comma or bracket becomes another token.
 fn replace_value(text: &mut Vec<u8>, from: usize, token: &str) {
-    let Some(colon) = text[from..].iter().position(|&b| b == b':').map(|at| from + at + 1) else {
-        return;
-    };
-    let end = text[colon..].iter().position(|b| b",}]".contains(b));
-    text.splice(colon..end.map_or(text.len(), |end| colon + end), token.bytes());
+    if let Some(colon) = text[from..].iter().position(|&b| b == b':').map(|at| from + at + 1) {
+        let end = text[colon..].iter().position(|b| b",}]".contains(b));
+        text.splice(colon..end.map_or(text.len(), |end| colon + end), token.bytes());
+    }
 }
 
 /// A member that stands between two commas comes again.
