@@ -3,6 +3,7 @@
 
 use trials::cases::{self, Teller};
 use trials::desk::{self, Call, DESK_BYTES, STORE_BYTES};
+use trials::guard::{End, Guarded};
 use trials::proved;
 use trials::trial::{draw, Desks};
 
@@ -37,17 +38,22 @@ fn rows_of_other_lengths() {
         assert_eq!(desk::call(&mut desk, &mut store, Call::Open(number, 6, 5)).number, 0);
     }
     desk::call(&mut desk, &mut store, Call::Feed(4, b"ab"));
-    for length in 0..12 {
-        let mut told = vec![77; length];
-        assert_eq!(proved::desk_status(&desk, 4, &mut told), 0);
-        let whole = [1, 2, 0].into_iter().chain([77; 12]).take(length);
-        assert_eq!(told, whole.collect::<Vec<u32>>());
-        let mut told = vec![77; length];
-        assert_eq!(proved::desk_list(&desk, &mut told), 0);
-        let whole = [4, 7, 9, 0, 0, 0, 0, 0].into_iter().chain([77; 12]).take(length);
-        assert_eq!(told, whole.collect::<Vec<u16>>());
-        let mut told = vec![77; length];
-        assert_eq!(proved::desk_status(&desk, 0, &mut told), 21);
-        assert_eq!(told, vec![77; length]);
+    let mut bytes = Guarded::new(DESK_BYTES);
+    let (mut counts, mut numbers) = (Guarded::new(12), Guarded::new(12));
+    for end in [End::Front, End::Back] {
+        let desk = bytes.lend_copy(&desk, end);
+        for length in 0..12 {
+            let told = counts.lend_copy(&vec![77; length], end);
+            assert_eq!(proved::desk_status(desk, 4, told), 0);
+            let whole = [1, 2, 0].into_iter().chain([77; 12]).take(length);
+            assert_eq!(*told, whole.collect::<Vec<u32>>());
+            let told = numbers.lend_copy(&vec![77; length], end);
+            assert_eq!(proved::desk_list(desk, told), 0);
+            let whole = [4, 7, 9, 0, 0, 0, 0, 0].into_iter().chain([77; 12]).take(length);
+            assert_eq!(*told, whole.collect::<Vec<u16>>());
+            let told = counts.lend_copy(&vec![77; length], end);
+            assert_eq!(proved::desk_status(desk, 0, told), 21);
+            assert_eq!(*told, vec![77; length]);
+        }
     }
 }

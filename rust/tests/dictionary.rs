@@ -3,6 +3,7 @@
 
 use trials::cases::{self, Codec};
 use trials::dictionary::{ENTRY, HEADER, MOST, SET, STRING};
+use trials::guard::{End, Guarded};
 use trials::make::draft::{Draft, Row};
 use trials::make::hostile::{families, family, Ending, Hostile};
 use trials::make::ordinary;
@@ -206,9 +207,13 @@ fn hostile_ones() {
 #[test]
 fn hostile_ones_of_the_most_bytes() {
     let mut judged = 0;
+    let mut room = Guarded::new(MOST);
+    let mut end = End::Front;
     hostile(MOST, &[3_270, 5_900], &[9, 254], |hostile, bytes| {
         let accepted = hostile.ending == Ending::Accepted;
-        assert_eq!(proved::dictionary_accepts(bytes), accepted, "{hostile:?}");
+        end = end.other();
+        let lent = room.lend_copy(bytes, end);
+        assert_eq!(proved::dictionary_accepts(lent), accepted, "{hostile:?}");
         judged += 1;
     });
     println!("hostile ones of {MOST} bytes: {judged} judged");

@@ -3,6 +3,7 @@
 use std::collections::BTreeMap;
 use std::fs;
 use std::path::{Path, PathBuf};
+use trials::guard::{End, Guarded};
 
 fn root() -> PathBuf {
     Path::new(env!("CARGO_MANIFEST_DIR")).join("..")
@@ -80,6 +81,14 @@ fn header() -> Table {
     table
 }
 
+/// The header says of each name what the definitions say.
+fn agree(names: &[&str], defined: &Table) {
+    let header = header();
+    for &name in names {
+        assert_eq!(header[name].0, defined[name].0, "{name}");
+    }
+}
+
 #[test]
 fn refusals_are_those_of_the_table() {
     let header = header();
@@ -96,7 +105,6 @@ fn refusals_are_those_of_the_table() {
 
 #[test]
 fn limits_are_those_of_the_table() {
-    let header = header();
     let code = constants("crates/paper/src/lib.rt");
     let limits = defined("crates/paper/specs/Limits.antt");
     for (name, (number, _)) in &limits {
@@ -115,15 +123,11 @@ fn limits_are_those_of_the_table() {
         "DECLARED_MOST",
         "STORE_BYTES",
     ];
-    for name in told {
-        assert_eq!(header[name].0, limits[name].0, "{name}");
-    }
+    agree(&told, &limits);
 }
 
 #[test]
 fn types_and_states_are_those_of_a_record() {
-    let header = header();
-    let record = defined("crates/desk_records/specs/Record.antt");
     let names = [
         "HEAD",
         "READ",
@@ -141,9 +145,7 @@ fn types_and_states_are_those_of_a_record() {
         "FAILED",
         "ABANDONED",
     ];
-    for name in names {
-        assert_eq!(header[name].0, record[name].0, "{name}");
-    }
+    agree(&names, &defined("crates/desk_records/specs/Record.antt"));
 }
 
 #[test]
@@ -154,10 +156,9 @@ fn the_version_and_the_desk_are_the_library_s() {
         65536 * part("VERSION_MAJOR") + 256 * part("VERSION_MINOR") + part("VERSION_PATCH");
     assert_eq!(u64::from(trials::proved::version()), version);
     assert_eq!(part("DESK_BYTES"), trials::desk::DESK_BYTES as u64);
-    let fresh = vec![0; part("DESK_BYTES") as usize];
-    assert_eq!(
-        trials::proved::desk_list(&fresh, &mut [0; 8]),
-        0,
-        "a desk of zeros is an empty one"
-    );
+    let mut fresh = Guarded::new(trials::desk::DESK_BYTES);
+    let mut row = Guarded::new(8);
+    let desk = fresh.lend_copy(&vec![0; part("DESK_BYTES") as usize], End::Back);
+    let told = trials::proved::desk_list(desk, row.lend(8, End::Back));
+    assert_eq!(told, 0, "a desk of zeros is an empty one");
 }
