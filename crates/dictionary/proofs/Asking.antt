@@ -3,13 +3,13 @@
 use Prim.Native.Nat.{ℕ, _+_, _-_, _≤_, _<_}
 use mathlib.Core.Path.{_≡_, refl, sym, ap, _∙_}
 use mathlib.Core.List.{List, [], _∷_}
-use mathlib.Core.Bool.{Bool, true, false}
+use mathlib.Core.Bool.{true, false}
 use native.Mathlib.Omega.{arith}
-use native.Mathlib.Nat.{add-zero, zero-add}
-use lib.ListN.{length, take, drop}
-use lib.Seq.{slice, take-length}
+use lib.ListN.{length, take, drop, getD}
+use lib.Seq.{ext-getD}
+use borrow.Author.Count.{below-more}
 use Rattle.paper.specs.Tests.{same}
-use Rattle.paper.proofs.Tests.{same-ne}
+use Rattle.paper.proofs.Tests.{same-eq, same-ne}
 use Rattle.numbers.proofs.Places.{slice-take}
 use Rattle.dictionary.specs.declared.Child.the-variants.{At, Nothing}
 use Rattle.dictionary.specs.Rows.{rowBytes, rowAt, entries, firstChild, childCount, nameLength, nameOffset, name}
@@ -66,19 +66,6 @@ module _ (d : List ℕ) (r : ℕ) (w : Row d r) where
 
 pub ruleset measuring = (own-row, long-none, long-some)
 
--- a row's name against a text
-module _ (d : List ℕ) (r : ℕ) (t own : List ℕ) (e : own ≡ name d r) where
-  pub other-length : (length own ≡ length t → ⊥) → false ≡ same (name d r) t
-  other-length x = sym (same-ne (name d r) t λ f. x (ap length (e ∙ f)))
-
-  pub whole-same : length own ≡ length t → (b : Bool) → b ≡ same (slice 0 (0 + length t) own) (slice 0 (0 + length t) t) → b ≡ same (name d r) t
-  whole-same l b f =
-      let x : take (0 + length t) own ≡ name d r = rw (zero-add (length t), ← l) (take-length own ∙ e) in
-      let y : take (0 + length t) t ≡ t = rw (zero-add (length t)) (take-length t) in
-      f ∙ rw (x, y)
-
-pub ruleset comparing = (row-inside, other-length, whole-same)
-
 -- a child by its number
 module _ (d : List ℕ) (ok : accepts d ≡ true) (r n : ℕ) (h : (r < entries d) × (parent d r ≡ true)) (k : ℕ) (hk : Field (childCount d r) 65536 k) where
   family : Family d r
@@ -92,36 +79,70 @@ module _ (d : List ℕ) (ok : accepts d ≡ true) (r n : ℕ) (h : (r < entries 
 
 pub ruleset numbering = (row-inside, numbered-here, numbered-past)
 
--- a child by its name: what is left to seek is the whole
-pub record Looking (d : List ℕ) (r : ℕ) (t : List ℕ) (f k p : ℕ) : Type 0 where
-  pub within : p ≤ k
-  pub whole : childNamed d r t ≡ seek (k - p) (f + p) (hasName d t)
+-- a child by its name: what is left to seek, from row c up to the end, is the whole
+pub record Looking (d : List ℕ) (r : ℕ) (t : List ℕ) (end c : ℕ) : Type 0 where
+  pub rows : end ≤ entries d
+  pub whole : childNamed d r t ≡ seek (end - c) c (hasName d t)
 
-module _ (d : List ℕ) (r : ℕ) (t : List ℕ) (f k : ℕ) where
-  pub look-start : Field (firstChild d r) 65536 f → Field (childCount d r) 65536 k → Looking d r t f k 0
+-- the same within one turn, while row c's own name, as long as the text, is compared with it: alike before byte i
+pub record Comparing (d : List ℕ) (r : ℕ) (t : List ℕ) (end turn : ℕ) (own : List ℕ) (c i : ℕ) : Type 0 where
+  pub looking : Looking d r t end c
+  pub still : c ≡ turn
+  pub here : c < end
+  pub named : own ≡ name d c
+  pub long : length own ≡ length t
+  pub alike : (k : ℕ) → k < i → getD own k 0 ≡ getD t k 0
+
+module _ (d : List ℕ) (r : ℕ) (t : List ℕ) where
+  pub look-start : accepts d ≡ true → (r < entries d) × (parent d r ≡ true) → (f k : ℕ) → Field (firstChild d r) 65536 f → Field (childCount d r) 65536 k → Looking d r t (f + k) f
   unfolding childNamed
-  look-start hf hk =
-      let e : k - 0 ≡ k = omega arith in
-      record { within = omega arith; whole = rw (e, add-zero f, hf .same, hk .same) }
+  look-start ok h f k hf hk =
+      let w = accepted-family d ok r (h .0) (h .1) in
+      let e : f + k - f ≡ k = omega arith in
+      record { rows = omega (arith, w .within, hf .same, hk .same); whole = rw (e, hf .same, hk .same) }
 
-  module _ (p : ℕ) (s : Looking d r t f k p) where
-    pub look-here : p < k → (b : Bool) → b ≡ same (name d (f + p)) t → b ≡ true → At (f + p) ≡ childNamed d r t
-    look-here h b e g = sym (s .whole ∙ seek-here (hasName d t) (k - p) (f + p) (omega arith) (sym e ∙ g))
+  module _ (end c : ℕ) (s : Looking d r t end c) where
+    pub look-none : end ≤ c → Nothing ≡ childNamed d r t
+    look-none h = sym (s .whole ∙ seek-none (hasName d t) (end - c) c (omega arith))
 
-    pub look-next : p < k → (b : Bool) → b ≡ same (name d (f + p)) t → b ≡ false → Looking d r t f k (p + 1)
-    look-next h b e g =
-        let x : k - p - 1 ≡ k - (p + 1) = omega arith in
-        let y : f + p + 1 ≡ f + (p + 1) = omega arith in
-        record {
-          within = omega arith;
-          whole = s .whole ∙ rw (x, y) at (seek-next (hasName d t) (k - p) (f + p) (omega arith) (sym e ∙ g));
-        }
+    module _ (h : c < end) where
+      pub look-inside : c < entries d
+      look-inside = omega (arith, s .rows)
 
-    pub look-none : k ≤ p → Nothing ≡ childNamed d r t
-    look-none h = sym (s .whole ∙ seek-none (hasName d t) (k - p) (f + p) (omega arith))
+      look-next : same (name d c) t ≡ false → Looking d r t end (c + 1)
+      look-next e =
+          let x : end - c - 1 ≡ end - (c + 1) = omega arith in
+          record { rows = s .rows; whole = s .whole ∙ rw x at (seek-next (hasName d t) (end - c) c (omega arith) e) }
 
--- the children of a row with children are rows
-pub child-row : (d : List ℕ) (r f k p : ℕ) → accepts d ≡ true → (r < entries d) × (parent d r ≡ true) → Field (firstChild d r) 65536 f → Field (childCount d r) 65536 k → p < k → f + p < entries d
-child-row d r f k p ok h hf hk l = let w = accepted-family d ok r (h .0) (h .1) in omega (arith, w .within, hf .same, hk .same)
+      pub look-other : (length (name d c) ≡ length t → ⊥) → Looking d r t end (c + 1)
+      look-other x = look-next (same-ne (name d c) t λ e. x (ap length e))
 
-pub ruleset looking = (row-inside, look-start, look-here, look-next, look-none, child-row)
+      pub compare-start : (own : List ℕ) → own ≡ name d c → length own ≡ length t → Comparing d r t end c own c 0
+      compare-start own e l =
+          record { looking = s; still = refl; here = h; named = e; long = l; alike = λ k g. absurd (omega arith) }
+
+  module _ (end turn : ℕ) (own : List ℕ) (c i : ℕ) (s : Comparing d r t end turn own c i) where
+    pub compare-inside : i < length t → i < length own
+    compare-inside h = omega (arith, s .long)
+
+    pub compare-more : getD own i 0 ≡ getD t i 0 → Comparing d r t end turn own c (i + 1)
+    compare-more e =
+        record { looking = s .looking; still = s .still; here = s .here; named = s .named; long = s .long; alike = below-more _ _ (s .alike) e }
+
+    pub compare-other : (getD own i 0 ≡ getD t i 0 → ⊥) → Looking d r t end (c + 1)
+    compare-other x =
+        look-next end c (s .looking) (s .here) (same-ne (name d c) t λ e. x (ap (λ (l : List ℕ). getD l i 0) (s .named ∙ e)))
+
+    pub compare-fewer : end - (c + 1) < end - turn
+    compare-fewer = omega (arith, s .here, s .still)
+
+    pub compare-done : length t ≤ i → At c ≡ childNamed d r t
+    compare-done h =
+        let e : own ≡ t = ext-getD 0 own t (s .long) λ k g. s .alike k (omega (arith, s .long)) in
+        let x : same (name d c) t ≡ true = same-eq (name d c) t (sym (s .named) ∙ e) in
+        sym (s .looking .whole ∙ seek-here (hasName d t) (end - c) c (omega (arith, s .here)) x)
+
+pub own-long : (own l t : List ℕ) → own ≡ l → length l ≡ length t → length own ≡ length t
+own-long own l t e x = ap length e ∙ x
+
+pub ruleset looking = (row-inside, look-start, look-none, look-inside, compare-start, compare-inside, compare-more, compare-other, compare-fewer, compare-done)

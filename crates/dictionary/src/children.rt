@@ -4,11 +4,9 @@ use crate::rows::child_count;
 use crate::rows::first_child;
 use crate::rows::name_length;
 use crate::rows::name_offset;
-use paper::bytes::same_bytes;
 ghost use mathlib.Core.Path.{_≡_};
 ghost use mathlib.Core.Bool.{true};
 ghost use Prim.Native.Nat.{_<_};
-ghost use Rattle.paper.specs.Tests.{same};
 ghost use Rattle.dictionary.specs.Rows.{entries, name};
 ghost use Rattle.dictionary.specs.Accepts.{accepts};
 ghost use Rattle.dictionary.specs.Children.{childNumbered, childNamed};
@@ -54,33 +52,26 @@ pub fn child_numbered(d: &[u8], row: usize, number: usize) -> Child
     Child::Nothing
 }
 
-// The row's name is the text.
-fn is_named(d: &[u8], row: usize, text: &[u8]) -> bool
-    requires { ⌜ accepts (now d) ≡ true ⌝ }
-    requires { ⌜ row < entries (now d) ⌝ }
-    ensures { λ r. ⌜ r ≡ same (name (now (d .entry)) row) (now (text .entry)) ⌝ }
-{
-    let own = name_of(d, row);
-    let size = text.len();
-    if own.len() == size {
-        return same_bytes(own, 0, text, 0, size);
-    }
-    false
-}
-
+// The first child with that name. A sibling whose name has another length is left before any byte is looked at; any other at
+// the first byte that differs.
 pub fn child_named(d: &[u8], row: usize, text: &[u8]) -> Child
     requires { ⌜ accepts (now d) ≡ true ⌝ }
     requires { ⌜ (row < entries (now d)) × (parent (now d) row ≡ true) ⌝ }
     ensures { λ r. ⌜ r ≡ childNamed (now (d .entry)) row (now (text .entry)) ⌝ }
 {
     let first = first_child(d, row);
-    let count = child_count(d, row);
-    let mut p: usize = 0;
-    while p < count {
-        if is_named(d, first + p, text) {
-            return Child::At(first + p);
+    let end = first + child_count(d, row);
+    'siblings: for child in first..end {
+        let own = name_of(d, child);
+        if own.len() != text.len() {
+            continue 'siblings;
         }
-        p += 1;
+        for i in 0..text.len() {
+            if own[i] != text[i] {
+                continue 'siblings;
+            }
+        }
+        return Child::At(child);
     }
     Child::Nothing
 }
