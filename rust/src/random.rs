@@ -43,3 +43,13 @@ impl Random {
         from[self.below(from.len())]
     }
 }
+
+/// The numbers below `count`, in an order that looks random.
+pub fn shuffled(count: usize) -> Vec<usize> {
+    let mut random = Random::new(47);
+    let mut numbers: Vec<usize> = (0..count).collect();
+    for at in (1..count).rev() {
+        numbers.swap(at, random.below(at + 1));
+    }
+    numbers
+}

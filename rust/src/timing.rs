@@ -23,6 +23,18 @@ pub fn quickest(rounds: usize, mut call: impl FnMut()) -> Duration {
     (0..rounds).map(|_| time(&mut call)).min().expect("at least one round")
 }
 
+/// The quickest of both, called by turns.
+pub fn quickests(
+    rounds: usize,
+    mut first: impl FnMut(),
+    mut second: impl FnMut(),
+) -> [Duration; 2] {
+    (0..rounds)
+        .map(|_| [time(&mut first), time(&mut second)])
+        .reduce(|[a, b], [c, d]| [a.min(c), b.min(d)])
+        .expect("at least one round")
+}
+
 pub fn time(call: &mut impl FnMut()) -> Duration {
     let start = Instant::now();
     call();

@@ -3,6 +3,8 @@
 
 use trials::cases::{self, both_ways, Codec};
 use trials::figure;
+use trials::make::siblings::{self, Differ, COUNT};
+use trials::random::shuffled;
 use trials::reader::{MOST, TEXT_MOST};
 use trials::trial::{draw, Trial};
 
@@ -71,4 +73,31 @@ fn integers_at_both_ends_of_each_width() {
             }
         }
     }
+}
+
+/// Each child is found by its name, in any order; a name with one byte changed, gone or added is another.
+#[test]
+fn a_thousand_siblings_by_their_names() {
+    let mut trial = Trial::default();
+    for differ in [Differ::Last, Differ::First] {
+        let dictionary = siblings::dictionary(differ);
+        for order in [(0..COUNT).collect(), shuffled(COUNT)] {
+            let text = siblings::text(differ, order.into_iter());
+            let (answer, _) = trial.write(&dictionary, &text, MOST);
+            assert_eq!((answer.number, answer.count), (0, COUNT + 1), "{differ:?}");
+        }
+        for number in [0, 92, 93, COUNT - 1] {
+            let text = siblings::text(differ, std::iter::once(number));
+            for at in 2..text.len() - 4 {
+                let mut changed = text.clone();
+                changed[at] ^= 1;
+                let shorter = [&text[..at], &text[at + 1..]].concat();
+                let longer = [&text[..at], b"a", &text[at..]].concat();
+                for text in [changed, shorter, longer] {
+                    trial.write(&dictionary, &text, MOST);
+                }
+            }
+        }
+    }
+    trial.seen.saw("names of one length", &[0, 6]);
 }

@@ -7,7 +7,7 @@
 
 use trials::make::ordinary;
 use trials::make::payload::{self, Style, PLAIN};
-use trials::random::Random;
+use trials::random::{shuffled, Random};
 use trials::reader::{Answer, MOST, TEXT_MOST};
 use trials::timing::{quickest, ratio};
 use trials::{proved, reader};
@@ -69,13 +69,4 @@ fn tuple_cost(dictionary: &[u8], bytes: &[u8]) -> f64 {
     });
     assert!(count > 1);
     (whole - check).as_secs_f64() / (count - 1) as f64
-}
-
-fn shuffled(count: usize) -> Vec<usize> {
-    let mut random = Random::new(47);
-    let mut numbers: Vec<usize> = (0..count).collect();
-    for at in (1..count).rev() {
-        numbers.swap(at, random.below(at + 1));
-    }
-    numbers
 }

@@ -2,15 +2,18 @@
 //!
 //! 1. proved to rival on texts of payloads of 10 KiB, dictionary check included on both sides;
 //! 2. a text of 60 KiB nested 16 deep to a flat one of the same size, and a flat one of 60 KiB to
-//!    four times one of 15 KiB: no inner value is measured twice, and no step is quadratic.
+//!    four times one of 15 KiB: no inner value is measured twice, and no step is quadratic;
+//! 3. proved to rival on texts that name a thousand siblings: the whole call, and the same less the
+//!    time of an empty text under the same dictionary, so that its check is not counted.
 
 use trials::make::draft::{Draft, Row};
 use trials::make::ordinary;
 use trials::make::payload::{Style, PLAIN};
+use trials::make::siblings::{self, Differ};
 use trials::make::text;
-use trials::random::Random;
+use trials::random::{shuffled, Random};
 use trials::reader::{Answer, MOST};
-use trials::timing::ratio;
+use trials::timing::{quickests, ratio};
 use trials::{dictionary, proved, writer};
 
 type Writer = fn(&[u8], &[u8], &mut [u8]) -> Answer;
@@ -35,6 +38,26 @@ fn main() {
     println!("60 KiB nested 16 deep / 60 KiB flat: {deep:.2}");
     let four = ratio(2_001, call(write, &chain, &flat), call(write, &chain, &quarter));
     println!("60 KiB / 15 KiB, a quarter of it: {:.2}", four / 4.0);
+    println!("proved / rival, texts that name {} siblings", siblings::COUNT);
+    for differ in [Differ::Last, Differ::First] {
+        let dictionary = siblings::dictionary(differ);
+        let rising = siblings::text(differ, 0..siblings::COUNT);
+        let mixed = siblings::text(differ, shuffled(siblings::COUNT).into_iter());
+        for (order, text) in [("the dictionary's order", rising), ("shuffled", mixed)] {
+            let [whole, search] = siblings_ratios(&dictionary, &text);
+            println!("  {differ:?} letter, {order}: {whole:.2}, check taken off {search:.2}");
+        }
+    }
+}
+
+/// Proved to rival: the whole call, and what the text adds to an empty one.
+fn siblings_ratios(dictionary: &[u8], text: &[u8]) -> [f64; 2] {
+    let writers: [Writer; 2] = [proved::write, writer::write];
+    let [whole, empty] = [text, b"{}"].map(|text| {
+        let [first, second] = writers.map(|write| call(write, dictionary, text));
+        quickests(301, first, second).map(|time| time.as_secs_f64())
+    });
+    [whole[0] / whole[1], (whole[0] - empty[0]) / (whole[1] - empty[1])]
 }
 
 fn call<'a>(write: Writer, dictionary: &'a [u8], text: &'a [u8]) -> impl FnMut() + 'a {
