@@ -142,6 +142,7 @@ module _ (d : List ℕ) (r : ℕ) (t : List ℕ) where
         let x : same (name d c) t ≡ true = same-eq (name d c) t (sym (s .named) ∙ e) in
         sym (s .looking .whole ∙ seek-here (hasName d t) (end - c) c (omega (arith, s .here)) x)
 
+-- for a length that differs: the name that was read is as long as the row's
 pub own-long : (own l t : List ℕ) → own ≡ l → length l ≡ length t → length own ≡ length t
 own-long own l t e x = ap length e ∙ x
 

@@ -8,12 +8,12 @@ pub const COUNT: usize = 1_000;
 
 const LETTERS: usize = 40;
 
-/// Where the names differ. There are 93 letters, so that neither holds for all pairs.
+/// Where the names differ first. There are 93 letters, so a thousand names can't all differ in one place.
 #[derive(Clone, Copy, Debug)]
 pub enum Differ {
-    /// First in the last letter from the up to 92 that come next to it, and from all others in the last but one.
+    /// In the last letter from up to 92 others, in the last but one from the rest.
     Last,
-    /// In the first letter from all but some ten others, and from these in the second.
+    /// In the first letter from all but some ten others, in the second from those.
     First,
 }
 
