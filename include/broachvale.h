@@ -26,7 +26,7 @@ extern "C" {
 
 /* The version of this header; broachvale_version tells that of the library, in the same form. */
 #define BROACHVALE_VERSION_MAJOR 0
-#define BROACHVALE_VERSION_MINOR 1
+#define BROACHVALE_VERSION_MINOR 2
 #define BROACHVALE_VERSION_PATCH 0
 #define BROACHVALE_VERSION \
     (65536u * BROACHVALE_VERSION_MAJOR + 256u * BROACHVALE_VERSION_MINOR + BROACHVALE_VERSION_PATCH)
@@ -46,7 +46,7 @@ enum broachvale_refusal {
     BROACHVALE_GIVEN_TWICE = 7,      /* child given twice in one set */
     BROACHVALE_NOT_IN_BASE = 8,      /* annotation selector, deferred bit, format or number kind not in the base */
     BROACHVALE_MISFIT = 9,           /* format doesn't fit the row; root no set */
-    BROACHVALE_VALUE_WRONG = 10,     /* value wrong: integer length or range, boolean, string, enum option, null with bytes, bytes left in a value */
+    BROACHVALE_VALUE_WRONG = 10,     /* value wrong: integer length or range, a top byte that only repeats its sign, boolean, string, enum option, null with bytes, bytes left in a value */
     BROACHVALE_TOO_DEEP = 11,        /* depth passed */
     BROACHVALE_BUDGET_SPENT = 12,    /* a tuple begins with the budget spent */
     BROACHVALE_AFTER_ROOT = 13,      /* bytes after the root, in text other than spaces */

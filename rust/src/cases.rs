@@ -3,7 +3,7 @@
 
 use crate::desk::{Call, Record, DESK_BYTES, PLACES, PLACE_BYTES, STORE_BYTES};
 use crate::dictionary::{accepts, rows};
-use crate::make::payload::{self, FREE, PLAIN};
+use crate::make::payload::{self, Style, FREE, PLAIN};
 use crate::make::{damage, hostile, ordinary, small, text};
 use crate::random::Random;
 use crate::reader::{Answer, MOST, TEXT_MOST};
@@ -81,7 +81,8 @@ pub fn dictionaries(random: &mut Random, codec: &mut impl Codec) {
     }
 }
 
-/// Payloads under one dictionary: a right one, with what it needs and with less, and damaged ones; deep ones; any bytes.
+/// Payloads under one dictionary: a right one, with what it needs and with less, and damaged ones; one with integers that
+/// are longer than needed; deep ones; any bytes.
 pub fn readings(random: &mut Random, codec: &mut impl Codec) {
     let dictionary = some_dictionary(random);
     if !accepts(&dictionary) {
@@ -101,6 +102,8 @@ pub fn readings(random: &mut Random, codec: &mut impl Codec) {
         let budget = random.pick(&[ENOUGH, ENOUGH, ENOUGH, answer.count / 2]);
         codec.read(&dictionary, &bytes, budget, TEXT_MOST);
     }
+    let padded = payload::payload(&dictionary, random, Style { padded: 20, ..style }, size);
+    codec.read(&dictionary, &padded, ENOUGH, TEXT_MOST);
     let innermost = random.pick(&[&[1, 0][..], &[5, 0], &[1, 0, 0], &[]]);
     let deep = payload::nested(random.between(14, 19), innermost);
     codec.read(&payload::deep_dictionary(), &deep, ENOUGH, TEXT_MOST);

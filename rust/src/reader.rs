@@ -196,7 +196,7 @@ impl Reader<'_> {
         let bytes = &self.bytes[value.from..value.to];
         match (value.format, bytes) {
             (NULL, []) => self.text.extend(b"null"),
-            (INTEGER, _) if (1..=8).contains(&bytes.len()) => {
+            (INTEGER, _) if (1..=8).contains(&bytes.len()) && !longer_than_needed(bytes) => {
                 self.text.extend(integer(bytes).to_string().as_bytes())
             }
             (BOOLEAN, [0x00]) => self.text.extend(b"false"),
@@ -230,4 +230,12 @@ fn integer(bytes: &[u8]) -> i64 {
     let mut whole = [sign; 8];
     whole[..bytes.len()].copy_from_slice(bytes);
     i64::from_le_bytes(whole)
+}
+
+/// Request 6: "two or more bytes whose top byte only repeats the sign". Without it they say the same.
+fn longer_than_needed(bytes: &[u8]) -> bool {
+    match bytes {
+        [below @ .., _] if !below.is_empty() => integer(below) == integer(bytes),
+        _ => false,
+    }
 }

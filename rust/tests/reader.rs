@@ -73,6 +73,37 @@ fn damaged_dictionaries() {
     trial.saw("damaged dictionaries", &[0, 1, 6, 9]);
 }
 
+/// Refused with 10 at its tuple, which begins at 14, exactly where the top byte only repeats the sign: every integer of one
+/// and two bytes, and longer ones with each byte below the tops that matter.
+#[test]
+fn integers_no_longer_than_needed() {
+    let dictionary = figure::bytes();
+    let mut trial = Trial::default();
+    let mut take = |value: &[u8], needless: bool| {
+        let width = value.len() as u8;
+        let mut bytes = unhex(b"00F0F0F1000000010000").expect("hex");
+        bytes.extend([1, 7 + width, 1, 1, 1, 6, 0x30, 1, width]);
+        bytes.extend(value);
+        let answer = trial.read(&dictionary, &bytes, ENOUGH, TEXT_MOST);
+        let expected = if needless { (10, 14) } else { (0, 0) };
+        assert_eq!((answer.number, answer.place), expected, "{value:02X?}");
+    };
+    for byte in 0..=255 {
+        take(&[byte], false);
+    }
+    for width in 2..=8 {
+        for top in 0..=255 {
+            if width > 2 && ![0x00, 0x01, 0x7F, 0x80, 0xFE, 0xFF].contains(&top) {
+                continue;
+            }
+            for below in 0..=255 {
+                let value = [vec![0x5A; width - 2], vec![below, top]].concat();
+                take(&value, top == 0x00 && below < 0x80 || top == 0xFF && below >= 0x80);
+            }
+        }
+    }
+}
+
 /// A set inside itself: 16 levels are read, 17 are not, and what is wrong at the 17th besides its depth is not looked at.
 #[test]
 fn depths() {

@@ -18,7 +18,7 @@ abbrev pub checked : List ℕ → ℕ
 checked d = cond (accepts d) accepted dictionaryWrong
 
 abbrev pub version : ℕ
-version = 65536 * 0 + 256 * 1 + 0
+version = 65536 * 0 + 256 * 2 + 0
 
 abbrev pub values : Answer → List ℕ
 values a = a .place ∷ a .count ∷ a .length ∷ []

@@ -7,7 +7,7 @@ use paper::DICTIONARY_WRONG;
 ghost use mathlib.Core.Path.{_≡_};
 ghost use Rattle.exports.specs.Exported.{checked, version};
 
-const VERSION: u32 = 256;
+const VERSION: u32 = 512;
 
 // The version that include/broachvale.h names.
 #[no_mangle]

@@ -5,6 +5,7 @@ pub mod Little
 pub mod Writing
 pub mod Numbers
 pub mod Integers
+pub mod Brief
 pub mod Decimals
 pub mod Reading
 pub mod Putting

@@ -1,6 +1,8 @@
--- The bytes of a number, least first: how many there are, what they say, and that none fewer say it. `fewest` and `clear` are both `until`, with another bound.
+-- The bytes of a number, least first: how many there are, what they say, that none fewer say it, and which these are. `fewest` and `clear` are both `until`, with another bound.
 -- Assumes nothing.
 --   until b k n     bytes of n up to where what is left is below b; at most k
+--   Ends b v        v ends where `until b` does
+--   until-ends, ends-only   those of `until b` do, and no other bytes that do say the same number
 --   limit b k       the least number that needs more than k + 1 bytes of `until b`
 --   lowest k n      the k lowest bytes of n
 use mathlib.Core.Path.{_≡_, refl, sym, ap, _∙_}
@@ -12,7 +14,7 @@ use lib.ListN.{length}
 use lib.Dec.{ltb}
 use borrow.Author.Tests.{ltb-true, ltb-false, lt-ltb, le-ltb}
 use Rattle.paper.specs.Checks.{choose}
-use Rattle.numbers.specs.Bytes.{Bytes, byte, little, lowest}
+use Rattle.numbers.specs.Bytes.{Bytes, byte, little, lowest, top, second}
 use Rattle.numbers.specs.Number.{fewest}
 use Rattle.numbers.specs.Integer.{clear, flip}
 
@@ -74,23 +76,76 @@ until-says b (suc k) n h g =
     (λ l. let r = until-says b k (n / 256) h (omega arith) in omega arith)
 
 -- the highest byte
-pub top-one : (x : ℕ) → byte (x ∷ []) (length (x ∷ []) - 1) ≡ x
-top-one x = refl
-
-pub top-cons : (x : ℕ) (v : List ℕ) → 1 ≤ length v → byte (x ∷ v) (length (x ∷ v) - 1) ≡ byte v (length v - 1)
+top-cons : (x : ℕ) (v : List ℕ) → 1 ≤ length v → top (x ∷ v) ≡ top v
 top-cons x [] h = absurd (omega arith)
 top-cons x (y ∷ v) h =
     let e : length (x ∷ y ∷ v) - 1 ≡ suc (length v) = omega arith in
     let f : length v ≡ length (y ∷ v) - 1 = omega arith in
     ap (byte (x ∷ y ∷ v)) e ∙ ap (byte (y ∷ v)) f
 
--- the highest of them is below the bound
-pub until-top : (b k n : ℕ) → b ≤ 256 → n < limit b k → byte (until b (suc k) n) (length (until b (suc k) n) - 1) < b
+-- v ends where `until b` does: its top byte is below b, and the number of the top two is not
+pub record Ends (b : ℕ) (v : List ℕ) : Type 0 where
+  pub some : 1 ≤ length v
+  pub below : top v < b
+  pub full : 2 ≤ length v → b ≤ second v + 256 * top v
+
+second-cons : (x : ℕ) (v : List ℕ) → 2 ≤ length v → second (x ∷ v) ≡ second v
+second-cons x [] h = absurd (omega arith)
+second-cons x (y ∷ v) h =
+    let e : length (x ∷ y ∷ v) - 2 ≡ suc (length v - 1) = omega arith in
+    let f : length v - 1 ≡ length (y ∷ v) - 2 = omega arith in
+    ap (byte (x ∷ y ∷ v)) e ∙ ap (byte (y ∷ v)) f
+
+-- of two bytes
+two : (x y : ℕ) → second (x ∷ y ∷ []) + 256 * top (x ∷ y ∷ []) ≡ little (x ∷ y ∷ [])
+unfolding little
+two x y = let e : second (x ∷ y ∷ []) ≡ x = refl in let f : top (x ∷ y ∷ []) ≡ y = refl in omega arith
+
+ends-one : (b x : ℕ) → x < b → Ends b (x ∷ [])
+ends-one b x h = record { some = omega arith; below = h; full = λ l. absurd (omega arith) }
+
+ends-cons : (b x : ℕ) (v : List ℕ) → Ends b v → b ≤ x + 256 * little v → Ends b (x ∷ v)
+unfolding little
+ends-cons b x [] e h = let l = e .some in absurd (omega arith)
+ends-cons b x (y ∷ []) e h = record { some = omega arith; below = e .below; full = λ l. omega (arith, h, two x y) }
+ends-cons b x (y ∷ z ∷ v) e h =
+    let t = top-cons x (y ∷ z ∷ v) (omega arith) in
+    let u = second-cons x (y ∷ z ∷ v) (omega arith) in
+    record { some = omega arith; below = omega (arith, e .below); full = λ l. omega (arith, e .full (omega arith)) }
+
+pub until-ends : (b k n : ℕ) → b ≤ 256 → n < limit b k → Ends b (until b (suc k) n)
 unfolding limit
-until-top b zero n h g = by-cases (λ v. byte v (length v - 1) < b) b zero n (λ l. omega (arith, top-one (n % 256))) (λ l. absurd (omega arith))
-until-top b (suc k) n h g =
-    by-cases (λ v. byte v (length v - 1) < b) b (suc k) n (λ l. omega (arith, top-one (n % 256)))
-    (λ l. omega (arith, top-cons (n % 256) (until b (suc k) (n / 256)) (until-some b k (n / 256)), until-top b k (n / 256) h (omega arith)))
+until-ends b zero n h g = by-cases (Ends b) b zero n (λ l. ends-one b (n % 256) (omega arith)) (λ l. absurd (omega arith))
+until-ends b (suc k) n h g =
+    by-cases (Ends b) b (suc k) n (λ l. ends-one b (n % 256) (omega arith))
+    (λ l. ends-cons b (n % 256) (until b (suc k) (n / 256)) (until-ends b k (n / 256) h (omega arith)) (omega (arith, until-says b k (n / 256) h (omega arith))))
+
+ends-tail : (b x y : ℕ) (v : List ℕ) → Ends b (x ∷ y ∷ v) → Ends b (y ∷ v)
+ends-tail b x y v e =
+    record {
+      some = omega arith;
+      below = omega (arith, e .below, top-cons x (y ∷ v) (omega arith));
+      full = λ l. omega (arith, e .full (omega arith), top-cons x (y ∷ v) (omega arith), second-cons x (y ∷ v) l);
+    }
+
+ends-large : (b x y : ℕ) (v : List ℕ) → Ends b (x ∷ y ∷ v) → b ≤ little (x ∷ y ∷ v)
+unfolding little
+ends-large b x y [] e = omega (arith, e .full (omega arith), two x y)
+ends-large b x y (z ∷ v) e = let r = ends-large b y z v (ends-tail b x y (z ∷ v) e) in omega arith
+
+pub ends-only : (b k : ℕ) (v : List ℕ) → b ≤ 256 → Bytes v → Ends b v → length v ≤ k → v ≡ until b k (little v)
+unfolding little
+ends-only b k [] g h e l = let z = e .some in absurd (omega arith)
+ends-only b zero (x ∷ v) g h e l = absurd (omega arith)
+ends-only b (suc k) (x ∷ []) g h e l =
+    let i : (x + 256 * 0) % 256 ≡ x = omega (arith, h .0) in
+    sym (until-last b k (x + 256 * 0) (omega (arith, e .below)) ∙ ap (λ (y : ℕ). y ∷ []) i)
+ends-only b (suc k) (x ∷ y ∷ v) g h e l =
+    let w = h .0 in
+    let i : little (x ∷ y ∷ v) % 256 ≡ x = omega arith in
+    let j : little (x ∷ y ∷ v) / 256 ≡ little (y ∷ v) = omega arith in
+    let r = ends-only b k (y ∷ v) g (h .1) (ends-tail b x y v e) (omega arith) in
+    sym (until-next b k (little (x ∷ y ∷ v)) (ends-large b x y v e) ∙ rw (i, j, ← r))
 
 -- a number below the limit has no more bytes than that
 pub until-short : (b k j n : ℕ) → n < limit b j → length (until b k n) ≤ suc j

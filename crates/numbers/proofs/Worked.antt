@@ -1,7 +1,8 @@
--- Worked examples: 128 and both ends of the range, in bytes and in text; and the faults of a number. What 80 and 80 00 say stands in Integers.
+-- Worked examples: 128 and both ends of the range, in bytes and in text; bytes that are too many for an integer; and the faults of a number. What 80 and 80 00 say stands in Integers.
 -- Assumes nothing.
 use mathlib.Core.Path.{_≡_, refl}
-use mathlib.Core.List.{[], _∷_}
+use mathlib.Core.List.{[], _∷_, map}
+use mathlib.Core.Bool.{true, false}
 use Rattle.paper.specs.Refusals.{pastEnd, widthWrong}
 use Rattle.numbers.specs.declared.Integer.{Integer}
 use Rattle.numbers.specs.declared.Integer.the-variants.{Plus, Minus}
@@ -9,7 +10,7 @@ use Rattle.numbers.specs.declared.Said.the-variants.{Wrong}
 use Rattle.numbers.specs.declared.Found.the-variants.{Refused, Value}
 use Rattle.numbers.specs.Bytes.{little}
 use Rattle.numbers.specs.Number.{numberAt, numberOf, fewest}
-use Rattle.numbers.specs.Integer.{briefOf, flip, clear}
+use Rattle.numbers.specs.Integer.{signRepeated, isInteger, briefOf, flip, clear}
 use Rattle.numbers.specs.Decimal.{decimalOf, decimal, digits, integerSaid, valueFrom}
 
 -- 128 takes two bytes, and -128 one
@@ -20,6 +21,15 @@ brief-128 = refl
 brief-minus-128 : briefOf (Minus 127) ≡ 0x80 ∷ []
 unfolding briefOf clear flip
 brief-minus-128 = refl
+
+-- request 6: "The base takes `0C 00` for 12 .. `80 00` for 128 stays"; 7F FF, which is -129, stays, too, and 00 00, 80 FF and eight bytes of FF are taken no longer
+stays : map isInteger ((0x80 ∷ 0x00 ∷ []) ∷ (0x7F ∷ 0xFF ∷ []) ∷ (0x00 ∷ []) ∷ (0xFF ∷ []) ∷ []) ≡ true ∷ true ∷ true ∷ true ∷ []
+unfolding isInteger signRepeated
+stays = refl
+
+goes : map isInteger ((0x0C ∷ 0x00 ∷ []) ∷ (0x00 ∷ 0x00 ∷ []) ∷ (0x80 ∷ 0xFF ∷ []) ∷ (0xFF ∷ 0xFF ∷ 0xFF ∷ 0xFF ∷ 0xFF ∷ 0xFF ∷ 0xFF ∷ 0xFF ∷ []) ∷ []) ≡ false ∷ false ∷ false ∷ false ∷ []
+unfolding isInteger signRepeated
+goes = refl
 
 -- 9223372036854775807 and -9223372036854775808
 highest : Integer

@@ -3,9 +3,10 @@
 --   little v      the number that v writes, the least byte first ("Multi-byte numbers are little-endian")
 --   lowest k n    the k lowest bytes of n
 --   byte, short, long   the number of one, two and four bytes at a place of s
-use Prim.Native.Nat.{ℕ, zero, suc, _+_, _*_, _/_, _%_, _<_}
+--   top, second   of v, the highest byte, which stands last, and the one below it
+use Prim.Native.Nat.{ℕ, zero, suc, _+_, _-_, _*_, _/_, _%_, _<_}
 use mathlib.Core.List.{List, [], _∷_}
-use lib.ListN.{getD}
+use lib.ListN.{length, getD}
 
 abbrev pub Bytes : List ℕ → Type 0
 Bytes [] = Unit {0}
@@ -28,3 +29,9 @@ short s p = byte s p + 256 * byte s (p + 1)
 
 unfoldable pub long : List ℕ → ℕ → ℕ
 long s p = short s p + 65536 * short s (p + 2)
+
+abbrev pub top : List ℕ → ℕ
+top v = byte v (length v - 1)
+
+abbrev pub second : List ℕ → ℕ
+second v = byte v (length v - 2)

@@ -36,6 +36,10 @@ pub or-right : (a b : Bool) → a || b ≡ false → b ≡ false
 or-right true b e = absurd (true≢false e)
 or-right false b e = e
 
+pub or-none : (a : Bool) → a || false ≡ a
+or-none true = refl
+or-none false = refl
+
 -- by a test and its two outcomes
 pub split : {A : Type 0} (t : Bool) → (t ≡ true → A) → (t ≡ false → A) → A
 split true f g = f refl

@@ -40,7 +40,7 @@ notInBase = 8
 abbrev pub misfit : ℕ
 misfit = 9
 
--- value wrong: integer length or range, boolean, string, enum option, null with bytes, bytes left in a value
+-- value wrong: integer length or range, a top byte that only repeats its sign, boolean, string, enum option, null with bytes, bytes left in a value
 abbrev pub valueWrong : ℕ
 valueWrong = 10
 

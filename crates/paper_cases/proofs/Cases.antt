@@ -5,7 +5,7 @@ use mathlib.Core.List.{_++_, map}
 use Rattle.paper.specs.Tests.{all, same, among}
 use Rattle.numbers.specs.Bytes.{little, short, long}
 use Rattle.numbers.specs.Number.{numberAt, fewest, numberOf}
-use Rattle.numbers.specs.Integer.{flip, integerOf, clear, briefOf}
+use Rattle.numbers.specs.Integer.{flip, integerOf, signRepeated, isInteger, clear, briefOf}
 use Rattle.numbers.specs.Decimal.{digits, decimal, decimalOf, digitsOnly, plain, integral, valueFrom, integerSaid}
 use Rattle.dictionary.specs.Rows.{name}
 use Rattle.dictionary.specs.Accepts as Accepts
@@ -35,12 +35,12 @@ use Rattle.desk.specs.Calls.{openNumber, opened, callNumber, called}
 use Rattle.paper_cases.specs.Spelling.{ascii, digit, hex}
 use Rattle.paper_cases.specs.Figure6.{figure6}
 use Rattle.paper_cases.specs.Cases.{numbersOf, deskAfter, answer, starred}
-use Rattle.paper_cases.specs.Further.{values, nested, refusals}
+use Rattle.paper_cases.specs.Further.{values, integers, nested, refusals}
 
 -- "The starred cases are one table under one claim about the definitions."
-pub worked : map (λ x. answer (x .question)) (starred ++ values ++ refusals) ≡ map (λ x. x .expected) (starred ++ values ++ refusals)
-unfolding ascii digit hex figure6 numbersOf deskAfter answer starred values nested refusals all same
-    little short long numberAt fewest numberOf flip integerOf clear briefOf digits decimal decimalOf digitsOnly plain integral valueFrom integerSaid
+pub worked : map (λ x. answer (x .question)) (starred ++ values ++ integers ++ refusals) ≡ map (λ x. x .expected) (starred ++ values ++ integers ++ refusals)
+unfolding ascii digit hex figure6 numbersOf deskAfter answer starred values integers nested refusals all same
+    little short long numberAt fewest numberOf flip integerOf signRepeated isInteger clear briefOf digits decimal decimalOf digitsOnly plain integral valueFrom integerSaid
     name Accepts.headerFine childless blockFine inTurn unlike member stringChild setFine arrayFine enumFine leafForm childrenFine nameByte nameFine rowFine accepts
     seek childNumbered childNamed stringByte wellSpelt size count among known child Fits.fresh fits label textOf integerValue booleanValue optionValue stringValue scalarValue
     supported Header.headerAgrees asked tupleAt Reading.run Reading.insideOf Reading.rootAt Reading.treeOf reads

@@ -1,5 +1,6 @@
 -- More cases under Figure 6's dictionary, of the same form as the starred ones: what meaning and answers of the definitions share and no starred case fixes, and the refusals of a text.
 --   values     null, false, a string, an array of two: read, and written back
+--   integers   request 6: none of two or more bytes whose top byte only repeats the sign
 --   refusals   of a text, in the order of their numbers: each is the first fault that the text meets
 use Prim.Native.Nat.{ℕ, zero, suc}
 use Prim.Native.String.{String}
@@ -42,6 +43,39 @@ values =
     ∷ case "false written" (writing falseText) (gives 2 falseBytes)
     ∷ case "a string written" (writing stringText) (gives 2 stringBytes)
     ∷ case "an array of two written" (writing twoText) (gives 4 twoBytes)
+    ∷ []
+
+-- the root with the one integer of so many bytes
+abbrev pub ofOne : String → List ℕ
+ofOne v = after "01 00 00 01 08 01 01 01 06 30 01 01" ++ hex v
+
+abbrev pub ofTwo : String → List ℕ
+ofTwo v = after "01 00 00 01 09 01 01 01 06 30 01 02" ++ hex v
+
+abbrev pub ofEight : String → List ℕ
+ofEight v = after "01 00 00 01 0F 01 01 01 06 30 01 08" ++ hex v
+
+abbrev pub says : String → List ℕ
+says value = ascii "{\"SampleIntegerProperty\":" ++ ascii value ++ ascii "}"
+
+unfoldable pub integers : List Case
+integers =
+    case "0C 00" (reading (ofTwo "0C 00") 9) (refuses 10 14)
+    ∷ case "00 00" (reading (ofTwo "00 00") 9) (refuses 10 14)
+    ∷ case "7F 00" (reading (ofTwo "7F 00") 9) (refuses 10 14)
+    ∷ case "80 00" (reading (ofTwo "80 00") 9) (gives 2 (says "128"))
+    ∷ case "80 FF" (reading (ofTwo "80 FF") 9) (refuses 10 14)
+    ∷ case "FF FF" (reading (ofTwo "FF FF") 9) (refuses 10 14)
+    ∷ case "7F FF" (reading (ofTwo "7F FF") 9) (gives 2 (says "-129"))
+    ∷ case "00" (reading (ofOne "00") 9) (gives 2 (says "0"))
+    ∷ case "80" (reading (ofOne "80") 9) (gives 2 (says "-128"))
+    ∷ case "eight bytes of FF" (reading (ofEight "FF FF FF FF FF FF FF FF") 9) (refuses 10 14)
+    ∷ case "eight bytes, 7F below 00" (reading (ofEight "FF FF FF FF FF FF 7F 00") 9) (refuses 10 14)
+    ∷ case "eight bytes, 80 below 00" (reading (ofEight "FF FF FF FF FF FF 80 00") 9) (gives 2 (says "36310271995674623"))
+    ∷ case "the least" (reading (ofEight "00 00 00 00 00 00 00 80") 9) (gives 2 (says "-9223372036854775808"))
+    ∷ case "the greatest" (reading (ofEight "FF FF FF FF FF FF FF 7F") 9) (gives 2 (says "9223372036854775807"))
+    ∷ case "128 written" (writing (says "128")) (gives 2 (ofTwo "80 00"))
+    ∷ case "-129 written" (writing (says "-129")) (gives 2 (ofTwo "7F FF"))
     ∷ []
 
 -- a text, and the number and place of its refusal

@@ -8,7 +8,7 @@ use mathlib.Core.List.{List, [], _∷_, map}
 use Rattle.paper.specs.Tests.{all, same, among}
 use Rattle.numbers.specs.Bytes.{little, short, long}
 use Rattle.numbers.specs.Number.{numberAt}
-use Rattle.numbers.specs.Integer.{flip, integerOf}
+use Rattle.numbers.specs.Integer.{flip, integerOf, signRepeated, isInteger}
 use Rattle.numbers.specs.Decimal.{digits, decimal, decimalOf}
 use Rattle.dictionary.specs.Rows.{name}
 use Rattle.dictionary.specs.Accepts as Accepts
@@ -56,7 +56,7 @@ asked =
     ∷ []
 
 pub small-answered : map (λ x. reads small (x .payload) (x .budget) 99) asked ≡ map (λ x. x .comes) asked
-unfolding asked all same among little short long numberAt flip integerOf digits decimal decimalOf name
+unfolding asked all same among little short long numberAt flip integerOf signRepeated isInteger digits decimal decimalOf name
     Accepts.headerFine childless blockFine inTurn unlike member stringChild setFine arrayFine enumFine leafForm childrenFine nameByte nameFine rowFine accepts
     seek childNumbered stringByte wellSpelt headerAgrees size count known child fresh fits label textOf
     integerValue booleanValue optionValue stringValue scalarValue supported Reading.asked tupleAt run insideOf rootAt treeOf reads

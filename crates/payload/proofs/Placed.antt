@@ -14,12 +14,13 @@ use lib.Dec.{ltb, leb, eqb}
 use borrow.Author.Tests.{ltb-false}
 use Rattle.dictionary.specs.Formats.{nullForm, integerForm, enumForm, stringForm}
 use Rattle.paper.specs.Refusals.{pastEnd, widthWrong, notKnown, givenTwice, notInBase, misfit, valueWrong, tooDeep, budgetSpent}
-use Rattle.paper.specs.Limits.{payloadLeast, depthMost, integerLeast, integerMost, numberLeast, numberMost}
+use Rattle.paper.specs.Limits.{payloadLeast, depthMost, numberLeast, numberMost}
 use Rattle.paper.specs.Checks.{choose, Judged, refused, good, refuse, need, after}
 use Rattle.numbers.specs.declared.Found.{Found}
 use Rattle.numbers.specs.declared.Found.the-variants.{Refused, Value}
 use Rattle.numbers.specs.Bytes.{byte}
 use Rattle.numbers.specs.Number.{numberAt}
+use Rattle.numbers.specs.Integer.{isInteger}
 use Rattle.numbers.proofs.Numbers.{stands}
 use Rattle.dictionary.specs.Children.{childNumbered}
 use Rattle.payload.specs.Tree.{Scalar, option, Tuples, booleanByte}
@@ -93,7 +94,7 @@ scalary : (d : List ℕ) (row f : ℕ) (v : List ℕ) → Scalary (scalarValue d
 unfolding scalarValue integerValue optionValue stringValue booleanValue
 scalary d row f v =
     scalary-choose (eqb f nullForm) _ _ (scalary-when (eqb (length v) 0) _)
-    (scalary-choose (eqb f integerForm) _ _ (scalary-when (leb integerLeast (length v) && leb (length v) integerMost) _)
+    (scalary-choose (eqb f integerForm) _ _ (scalary-when (isInteger v) _)
     (scalary-choose (eqb f enumForm) _ _ (scalary-option d row v (numberAt v 0 (length v)) (numeric v 0 (length v)))
     (scalary-choose (eqb f stringForm) _ _ (scalary-when (leb 1 (length v) && eqb (byte v (length v - 1)) 0 && wellSpelt (take (length v - 1) v)) _)
     (scalary-choose (eqb (length v) 1 && eqb (byte v 0) (booleanByte false)) _ _ (scalary-worth _) (scalary-when (eqb (length v) 1 && eqb (byte v 0) (booleanByte true)) _)))))

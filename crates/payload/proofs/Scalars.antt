@@ -15,7 +15,6 @@ use lib.ListN.{length, take, drop, length-append}
 use lib.Seq.{slice, take-length, take-suc, take-append-seam, getD-append-seam}
 use lib.Dec.{leb, eqb}
 use borrow.Author.Tests.{leb-true, eqb-true, eqb-false, le-leb, eq-eqb}
-use Rattle.paper.specs.Limits.{integerLeast, integerMost}
 use Rattle.paper.specs.Refusals.{valueWrong}
 use Rattle.paper.specs.Checks.{choose}
 use Rattle.paper.proofs.Tests.{and-left, and-right}
@@ -23,8 +22,9 @@ use Rattle.numbers.specs.declared.Found.{Found}
 use Rattle.numbers.specs.declared.Found.the-variants.{Refused, Value}
 use Rattle.numbers.specs.Bytes.{Bytes, byte, little}
 use Rattle.numbers.specs.Number.{numberAt}
-use Rattle.numbers.specs.Integer.{integerOf}
+use Rattle.numbers.specs.Integer.{integerOf, isInteger}
 use Rattle.numbers.proofs.Numbers.{number-at, at-number}
+use Rattle.numbers.proofs.Brief.{is-integer}
 use Rattle.dictionary.specs.Formats.{nullForm, integerForm, enumForm, stringForm, booleanForm, realForm}
 use Rattle.dictionary.specs.Children.{childNumbered}
 use Rattle.payload.specs.Tree.{Scalar, null, integer, option, string, boolean, formatOf, booleanByte}
@@ -67,7 +67,7 @@ module _ (d : List ℕ) (row : ℕ) where
   pub scalar-complete : (x : Scalar) (v : List ℕ) → Holds x v → allowed d row x ≡ true → scalarValue d row (formatOf x) v ≡ worth x
   unfolding scalarValue integerValue booleanValue stringValue optionValue
   scalar-complete null v h a = rw h
-  scalar-complete (integer i) v h a = rw (le-leb integerLeast (length v) (h .least), le-leb (length v) integerMost (h .most), h .says)
+  scalar-complete (integer i) v h a = rw (is-integer v (h .bytes) .1 (rw (h .says) h), h .says)
   scalar-complete (option n) v h a =
       let l : 1 + (length v - 1) ≡ length v = omega (arith, number-long h) in
       rw (number-at v v [] 0 (length v) n (sym (append-nil v)) h (omega arith), eq-eqb _ _ l, a)
@@ -124,9 +124,8 @@ module _ (d : List ℕ) (row : ℕ) (v : List ℕ) (x : Scalar) where
   integer-sound : Bytes v → integerValue v ≡ worth x → Stated d row integerForm v x
   unfolding integerValue
   integer-sound hb e =
-      let t = whenever (leb integerLeast (length v) && leb (length v) integerMost) _ x e in
-      is integerForm (integer (integerOf v)) (t .1) refl
-      (record { least = leb-true integerLeast (length v) (and-left _ _ (t .0)); most = leb-true (length v) integerMost (and-right (leb integerLeast (length v)) _ (t .0)); bytes = hb; says = refl }) refl
+      let t = whenever (isInteger v) _ x e in
+      is integerForm (integer (integerOf v)) (t .1) refl (is-integer v hb .0 (t .0)) refl
 
   string-sound : stringValue v ≡ worth x → Stated d row stringForm v x
   unfolding stringValue
@@ -211,7 +210,7 @@ module _ (d : List ℕ) (row f : ℕ) (v : List ℕ) where
     unfolding scalarValue integerValue booleanValue stringValue optionValue
     wrong-ten h e =
         turn nullForm _ _ e (λ z. ten (eqb (length v) 0) _) λ e.
-        turn integerForm _ _ e (λ z. ten (leb integerLeast (length v) && leb (length v) integerMost) _) λ e.
+        turn integerForm _ _ e (λ z. ten (isInteger v) _) λ e.
         turn enumForm _ _ e (λ z e. options (numberAt v 0 (length v)) (h z) e) λ e.
         turn stringForm _ _ e (λ z. ten (leb 1 (length v) && eqb (byte v (length v - 1)) 0 && wellSpelt (take (length v - 1) v)) _) λ e.
         booleans (eqb (length v) 1 && eqb (byte v 0) 0) e

@@ -13,20 +13,22 @@ use lib.ListN.{length}
 use lib.Seq.{slice, length-slice}
 use lib.Dec.{ltb, eqb}
 use borrow.Author.Tests.{ltb-true, ltb-false, eqb-true, eqb-false}
-use Rattle.paper.specs.Limits.{integerLeast, integerMost}
-use Rattle.paper.proofs.Tests.{so-not}
+use Rattle.paper.specs.Limits.{integerMost}
+use Rattle.paper.proofs.Tests.{split, so-not}
 use Rattle.numbers.specs.Bytes.{Bytes}
 use Rattle.numbers.specs.Number.{Number}
-use Rattle.numbers.specs.Integer.{integerOf}
+use Rattle.numbers.specs.declared.Integer.{Integer}
+use Rattle.numbers.specs.Integer.{integerOf, signRepeated, TwosComplement}
 use Rattle.numbers.proofs.Places.{bytes-slice}
 use Rattle.numbers.proofs.Numbers.{Same, number-cut}
+use Rattle.numbers.proofs.Brief.{sign-repeated}
 use Rattle.dictionary.specs.Formats.{nullForm, integerForm, enumForm, stringForm, booleanForm}
 use Rattle.dictionary.specs.Children.{childNumbered}
 use Rattle.payload.specs.Tree.{Scalar, null, integer, option, string, boolean, formatOf, booleanByte}
 use Rattle.payload.specs.Writes.{Spelt, Holds}
 use Rattle.payload.specs.Fits.{found, allowed}
 use Rattle.payload.specs.Lying.{Read}
-use Rattle.payload.specs.Refusing.{WrongScalar, integer-short, integer-long, no-boolean, no-string, unknown-option, option-left, null-with-bytes}
+use Rattle.payload.specs.Refusing.{WrongScalar, integer-short, integer-long, integer-padded, no-boolean, no-string, unknown-option, option-left, null-with-bytes}
 use Rattle.payload.proofs.Lying.{part, lies-is}
 use Rattle.payload.proofs.Scalars.{Stated, empty, last-form}
 use Rattle.payload.proofs.Asked.{Base}
@@ -39,9 +41,9 @@ module _ (v : List ℕ) where
   null-holds (string t) e h = absurd (omega arith)
   null-holds (boolean b) e h = absurd (omega arith)
 
-  integer-holds : (y : Scalar) → formatOf y ≡ integerForm → Holds y v → (integerLeast ≤ length v) × (length v ≤ integerMost)
+  integer-holds : (y : Scalar) → formatOf y ≡ integerForm → Holds y v → (i : Integer) × TwosComplement i v
   integer-holds null e h = absurd (omega arith)
-  integer-holds (integer i) e h = (h .least, h .most)
+  integer-holds (integer i) e h = (i, h)
   integer-holds (option n) e h = absurd (omega arith)
   integer-holds (string t) e h = absurd (omega arith)
   integer-holds (boolean b) e h = absurd (omega arith)
@@ -71,6 +73,7 @@ module _ (d s : List ℕ) (row f q z : ℕ) where
   pub wrong-read : WrongScalar d s row f q z → f ≡ enumForm → (m : ℕ) × (p : ℕ) × Read s q z m p
   wrong-read (integer-short i h) e = absurd (omega arith)
   wrong-read (integer-long i h) e = absurd (omega arith)
+  wrong-read (integer-padded i h) e = absurd (omega arith)
   wrong-read (no-boolean i h) e = absurd (omega arith)
   wrong-read (no-string i h) e = absurd (omega arith)
   wrong-read (unknown-option n p i r h) e = (n, p, r)
@@ -81,6 +84,7 @@ module _ (d s : List ℕ) (row f q z : ℕ) where
   pub wrong-high : WrongScalar d s row f q z → ltb f 2 ≡ false
   wrong-high (integer-short i h) = rw i
   wrong-high (integer-long i h) = rw i
+  wrong-high (integer-padded i h) = rw i
   wrong-high (no-boolean i h) = rw i
   wrong-high (no-string i h) = rw i
   wrong-high (unknown-option n p i r h) = rw i
@@ -99,8 +103,9 @@ module _ (d s : List ℕ) (row f q z : ℕ) where
         made y e = (y .numbers, omega (arith, ap length (y .bytes), long))
 
     pub wrong-none : WrongScalar d s row f q z → (y : Scalar) → Stated d row f (slice q z s) y → ⊥
-    wrong-none (integer-short i h) y t = let a = integer-holds _ y (t .format ∙ i) (t .holds) in omega (arith, a .0, long)
-    wrong-none (integer-long i h) y t = let a = integer-holds _ y (t .format ∙ i) (t .holds) in omega (arith, a .1, long)
+    wrong-none (integer-short i h) y t = let a = integer-holds _ y (t .format ∙ i) (t .holds) in omega (arith, a .1 .least, long)
+    wrong-none (integer-long i h) y t = let a = integer-holds _ y (t .format ∙ i) (t .holds) in omega (arith, a .1 .most, long)
+    wrong-none (integer-padded i h) y t = let a = integer-holds _ y (t .format ∙ i) (t .holds) in a .1 .needed h
     wrong-none (no-boolean i h) y t = let a = boolean-holds _ y (t .format ∙ i) (t .holds) in h (a .0) (a .1)
     wrong-none (no-string i h) y t = let a = string-holds _ y (t .format ∙ i) (t .holds) in h (a .0) (a .1)
     wrong-none (unknown-option n p i r h) y t =
@@ -119,13 +124,23 @@ module _ (d s : List ℕ) (row f q z : ℕ) where
       null-wrong i true g = null-with-bytes i (ltb-true q z g)
       null-wrong i false g = absurd (stated null i (empty (slice q z s) (let h = ltb-false q z g in omega (arith, long))) refl)
 
-      integer-wrong : f ≡ integerForm → (t u : Bool) → ltb z (q + 1) ≡ t → ltb (q + integerMost) z ≡ u → WrongScalar d s row f q z
-      integer-wrong i true u g h = integer-short i (ltb-true z (q + 1) g)
-      integer-wrong i false true g h = integer-long i (ltb-true (q + integerMost) z h)
-      integer-wrong i false false g h =
-          let a = ltb-false z (q + 1) g in
-          let b = ltb-false (q + integerMost) z h in
-          absurd (stated (integer (integerOf (slice q z s))) i (record { least = omega (arith, long); most = omega (arith, long); bytes = bytes-slice s q z hb; says = refl }) refl)
+      integer-wrong : f ≡ integerForm → WrongScalar d s row f q z
+      integer-wrong i =
+          split (ltb z (q + 1)) (λ e. integer-short i (ltb-true z (q + 1) e)) λ e.
+          let a = ltb-false z (q + 1) e in
+          split (ltb (q + integerMost) z) (λ e. integer-long i (ltb-true (q + integerMost) z e)) λ e.
+          let b = ltb-false (q + integerMost) z e in
+          split (signRepeated (slice q z s)) (λ e. integer-padded i (sign-repeated (slice q z s) .0 e)) λ e.
+          absurd
+          (stated (integer (integerOf (slice q z s))) i
+          (record {
+            least = omega (arith, long);
+            most = omega (arith, long);
+            bytes = bytes-slice s q z hb;
+            says = refl;
+            needed = λ r. so-not (signRepeated (slice q z s)) e (sign-repeated (slice q z s) .1 r);
+          })
+          refl)
 
       option-wrong : (n p : ℕ) → f ≡ enumForm → Read s q z n p → (t u : Bool) → ltb p z ≡ t → found (childNumbered d row n) ≡ u → WrongScalar d s row f q z
       option-wrong n p i r true u g h = option-left n p i r (ltb-true p z g)
@@ -139,7 +154,7 @@ module _ (d s : List ℕ) (row f q z : ℕ) where
       pub none-wrong : (f ≡ enumForm → (m : ℕ) × (p : ℕ) × Read s q z m p) → 2 ≤ f → Base f → WrongScalar d s row f q z
       none-wrong o low base =
           turn nullForm (λ i. null-wrong i (ltb q z) refl) λ a.
-          turn integerForm (λ i. integer-wrong i (ltb z (q + 1)) (ltb (q + integerMost) z) refl refl) λ b.
+          turn integerForm integer-wrong λ b.
           turn enumForm (λ i. let r = o i in option-wrong (r .0) (r .1) i (r .2) (ltb (r .1) z) (found (childNumbered d row (r .0))) refl refl) λ c.
           turn stringForm (λ i. no-string i (λ t h. stated (string t) i h refl)) λ e.
           let i = last-form f low (base .high) (base .not-real) a b c e in

@@ -12,6 +12,7 @@ use Rattle.paper.specs.Limits.{integerLeast, integerMost, payloadLeast, payload
 use Rattle.paper.specs.Refusals.{dictionaryWrong, lengthWrong, headerDiffers, pastEnd, widthWrong, notKnown, givenTwice, notInBase, misfit, valueWrong, tooDeep, budgetSpent, afterRoot, noRoom}
 use Rattle.numbers.specs.Bytes.{byte}
 use Rattle.numbers.specs.Number.{NumberPast, WidthOff}
+use Rattle.numbers.specs.Integer.{SignRepeated}
 use Rattle.dictionary.specs.Formats.{nullForm, integerForm, enumForm, stringForm, booleanForm}
 use Rattle.dictionary.specs.Children.{childNumbered}
 use Rattle.dictionary.specs.Accepts.{accepts}
@@ -52,10 +53,12 @@ module _ (s : List ℕ) (x : Spot) where
   pub data Misfit : Type 0 where
     misfitting : (n p : ℕ) → Numbered s x n p → p < x .end → supported (byte s p) ≡ true → x .suits n (byte s p / 16) ≡ false → Misfit
 
--- V, from q to z, is wrong as a scalar of the format f: "integer length or range, boolean, string, enum option, null with bytes, bytes left in a value"
+-- V, from q to z, is wrong as a scalar of the format f: "integer length or range, boolean, string, enum option, null with bytes, bytes left in a value"; and, by request 6, "any integer of two
+-- or more bytes whose top byte only repeats the sign"
 pub data WrongScalar (d s : List ℕ) (row f q z : ℕ) : Type 0 where
   integer-short : f ≡ integerForm → z < q + integerLeast → WrongScalar d s row f q z
   integer-long : f ≡ integerForm → q + integerMost < z → WrongScalar d s row f q z
+  integer-padded : f ≡ integerForm → SignRepeated (slice q z s) → WrongScalar d s row f q z
   no-boolean : f ≡ booleanForm → ((b : Bool) → slice q z s ≡ booleanByte b ∷ [] → ⊥) → WrongScalar d s row f q z
   no-string : f ≡ stringForm → ((t : List ℕ) → Spelt t (slice q z s) → ⊥) → WrongScalar d s row f q z
   unknown-option : (n p : ℕ) → f ≡ enumForm → Read s q z n p → found (childNumbered d row n) ≡ false → WrongScalar d s row f q z

@@ -4,14 +4,13 @@ use mathlib.Core.List.{List}
 use mathlib.Core.Bool.{Bool, true, false, _&&_}
 use lib.ListN.{length, take}
 use lib.Dec.{leb, eqb}
-use Rattle.paper.specs.Limits.{integerLeast, integerMost}
 use Rattle.paper.specs.Refusals.{valueWrong}
 use Rattle.paper.specs.Checks.{choose}
 use Rattle.numbers.specs.declared.Found.{Found}
 use Rattle.numbers.specs.declared.Found.the-variants.{Refused, Value}
 use Rattle.numbers.specs.Bytes.{byte}
 use Rattle.numbers.specs.Number.{numberAt}
-use Rattle.numbers.specs.Integer.{integerOf}
+use Rattle.numbers.specs.Integer.{integerOf, isInteger}
 use Rattle.dictionary.specs.Formats.{nullForm, integerForm, enumForm, stringForm}
 use Rattle.dictionary.specs.Children.{childNumbered}
 use Rattle.payload.specs.Tree.{Scalar, null, integer, option, string, boolean, booleanByte}
@@ -26,7 +25,7 @@ abbrev pub when : Bool → (Unit {0} → Scalar) → Valued
 when t x = choose t (λ _. worth (x tt)) (λ _. wrong valueWrong)
 
 unfoldable pub integerValue : List ℕ → Valued
-integerValue v = when (leb integerLeast (length v) && leb (length v) integerMost) (λ _. integer (integerOf v))
+integerValue v = when (isInteger v) (λ _. integer (integerOf v))
 
 unfoldable pub booleanValue : List ℕ → Valued
 booleanValue v =

@@ -1,18 +1,16 @@
--- Which bytes write a tree (document 01, "The payload"), with no order of checks. What the paper leaves free, leading zeros, the flag bytes, the format bits 1 to 3 and an
--- integer's length, lives in one field each, so many byte lists write one tree.
+-- Which bytes write a tree (document 01, "The payload"), with no order of checks. What the paper leaves free, leading zeros of numbers, the flag bytes and the format bits
+-- 1 to 3, lives in one field each, so many byte lists write one tree.
 --   Holds x v     the bytes v are a value of the scalar x
 --   Writes t b    the bytes b are the tuples t
 --   Payload t b   the bytes b are a payload whose root has the members t
-use Prim.Native.Nat.{ℕ, _*_, _/_, _%_, _≤_, _<_}
+use Prim.Native.Nat.{ℕ, _*_, _/_, _%_, _<_}
 use mathlib.Core.Path.{_≡_}
 use mathlib.Core.List.{List, [], _∷_, _++_}
 use mathlib.Core.Bool.{true}
 use lib.ListN.{length}
-use Rattle.paper.specs.Limits.{integerLeast, integerMost}
-use Rattle.numbers.specs.declared.Integer.{Integer}
 use Rattle.numbers.specs.Bytes.{Bytes}
 use Rattle.numbers.specs.Number.{Number}
-use Rattle.numbers.specs.Integer.{integerOf}
+use Rattle.numbers.specs.Integer.{TwosComplement}
 use Rattle.payload.specs.Tree.{Scalar, null, integer, option, string, boolean, Tuples, none, scalar, inner, formatOf, shapeFormat, booleanByte, size}
 use Rattle.payload.specs.declared.Shape.the-variants.{Set}
 use Rattle.payload.specs.Header.{headerWith}
@@ -45,12 +43,6 @@ pub record Sized (P : List ℕ → Type 0) (b : List ℕ) : Type 0 where
 -- "A tuple: S, F, L, V. S is a number: bit 0 picks the dictionary (0 main, 1 annotation), the rest is the sequence number."
 abbrev pub Tuple : ℕ → ℕ → (List ℕ → Type 0) → List ℕ → Type 0
 Tuple n f P b = Cut (Number (2 * n)) (Cut (Format f) (Sized P)) b
-
-pub record TwosComplement (i : Integer) (v : List ℕ) : Type 0 where
-  pub least : integerLeast ≤ length v
-  pub most : length v ≤ integerMost
-  pub bytes : Bytes v
-  pub says : integerOf v ≡ i
 
 pub record Spelt (t v : List ℕ) : Type 0 where
   pub whole : v ≡ t ++ (0 ∷ [])

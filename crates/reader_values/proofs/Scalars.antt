@@ -3,19 +3,21 @@
 use Prim.Native.Nat.{ℕ, _+_, _-_, _^_, _≤_, _<_}
 use mathlib.Core.Path.{_≡_, sym, ap, _∙_}
 use mathlib.Core.List.{List, [], _∷_}
-use mathlib.Core.Bool.{Bool, true, false, not, _&&_}
+use mathlib.Core.Bool.{Bool, true, false, not, _&&_, _||_}
 use native.Mathlib.Omega.{arith}
 use lib.ListN.{length, take, length-append}
 use lib.Seq.{slice, length-slice}
-use lib.Dec.{eqb}
+use lib.Dec.{ltb, leb, eqb}
 use borrow.Author.Tests.{lt-leb, le-leb, eq-eqb, ne-eqb, not-true, not-false}
 use Rattle.paper.specs.Limits.{integerLeast, integerMost}
 use Rattle.paper.specs.Refusals.{valueWrong}
 use Rattle.paper.specs.Checks.{choose}
+use Rattle.paper.proofs.Tests.{or-none}
 use Rattle.numbers.specs.declared.Found.{Found}
 use Rattle.numbers.specs.declared.Found.the-variants.{Refused, Value}
 use Rattle.numbers.specs.declared.Integer.{Integer}
 use Rattle.numbers.specs.Bytes.{byte}
+use Rattle.numbers.specs.Integer.{signRepeated, isInteger}
 use Rattle.numbers.specs.Decimal.{decimalOf}
 use Rattle.numbers.specs.Met.{NumberMet, IntegerMet}
 use Rattle.dictionary.specs.declared.Child.{Child}
@@ -49,14 +51,48 @@ module _ (s : List ℕ) (from to : ℕ) (sp : Span s from to) where
   long : length (slice from to s) ≡ to - from
   long = length-slice from to s (sp .within)
 
-  pub integer-none : to - from < integerLeast → AnyWordMet from to (integerValue (slice from to s)) (checked.Refused valueWrong)
+  -- of V, the byte that stands so many before its end
+  from-end : (k : ℕ) → 1 ≤ k → k ≤ to - from → byte (slice from to s) (to - from - k) ≡ byte s (to - k)
+  from-end k l h = let e : from + (to - from - k) ≡ to - k = omega arith in part-byte s from to (omega arith) (to - from - k) (omega arith) ∙ ap (byte s) e
+
+  pub sign-one : to - from < 2 → false ≡ signRepeated (slice from to s)
+  unfolding signRepeated
+  sign-one h = rw (long, lt-leb 2 (to - from) h)
+
+  module _ (l : 2 ≤ to - from) where
+    signed : signRepeated (slice from to s) ≡ eqb (byte s (to - 1)) 0x00 && ltb (byte s (to - 2)) 0x80 || eqb (byte s (to - 1)) 0xFF && leb 0x80 (byte s (to - 2))
+    unfolding signRepeated
+    signed = rw (long, le-leb 2 (to - from) l, from-end 1 (omega arith) (omega arith), from-end 2 (omega arith) l)
+
+    pub sign-plus : byte s (to - 1) ≡ 0x00 → ltb (byte s (to - 2)) 0x80 ≡ signRepeated (slice from to s)
+    sign-plus t = rw (signed, t, or-none (ltb (byte s (to - 2)) 0x80))
+
+    module _ (n : byte s (to - 1) ≡ 0x00 → ⊥) where
+      pub sign-minus : byte s (to - 1) ≡ 0xFF → leb 0x80 (byte s (to - 2)) ≡ signRepeated (slice from to s)
+      sign-minus t = rw (signed, t)
+
+      pub sign-other : (byte s (to - 1) ≡ 0xFF → ⊥) → false ≡ signRepeated (slice from to s)
+      sign-other t = rw (signed, ne-eqb (byte s (to - 1)) 0x00 n, ne-eqb (byte s (to - 1)) 0xFF t)
+
+pub ruleset signs = (sign-one, sign-plus, sign-minus, sign-other)
+
+module _ (s : List ℕ) (from to : ℕ) (sp : Span s from to) where
+  abbrev Worded : Checked → Type 0
+  Worded r = AnyWordMet from to (integerValue (slice from to s)) r
+
+  -- what is no integer
+  no-integer : isInteger (slice from to s) ≡ false → Worded (checked.Refused valueWrong)
   unfolding integerValue
-  integer-none h = record { at-row = λ d row. record { same = rw (long, lt-leb integerLeast (to - from) h); short = tt } }
+  no-integer e = record { at-row = λ d row. record { same = rw e; short = tt } }
+
+  pub integer-none : to - from < integerLeast → Worded (checked.Refused valueWrong)
+  unfolding isInteger
+  integer-none h = no-integer (rw (long s from to sp, lt-leb integerLeast (to - from) h))
 
   module _ (l : integerLeast ≤ to - from) where
-    pub integer-long : integerMost < to - from → AnyWordMet from to (integerValue (slice from to s)) (checked.Refused valueWrong)
-    unfolding integerValue
-    integer-long h = record { at-row = λ d row. record { same = rw (long, le-leb integerLeast (to - from) l, lt-leb (to - from) integerMost h); short = tt } }
+    pub integer-long : integerMost < to - from → Worded (checked.Refused valueWrong)
+    unfolding isInteger
+    integer-long h = no-integer (rw (long s from to sp, le-leb integerLeast (to - from) l, lt-leb (to - from) integerMost h))
 
     pub integer-order : from + 1 ≤ to
     integer-order = omega arith
@@ -65,19 +101,27 @@ module _ (s : List ℕ) (from to : ℕ) (sp : Span s from to) where
       pub integer-room : to ≤ from + integerMost
       integer-room = omega (arith, sp .order)
 
-      pub integer-is : (i : Integer) (k : ℕ) → IntegerMet (slice from to s) i → k ≡ length (decimalOf i) → AnyWordMet from to (integerValue (slice from to s)) (checked.Good k)
-      unfolding integerValue
-      integer-is i k m e =
-          record {
-            at-row =
-                λ d row.
-                record {
-                  same = rw (long, le-leb integerLeast (to - from) l, le-leb (to - from) integerMost h) (ap checked.Good (e ∙ ap (λ (j : Integer). length (decimalOf j)) (m .same)));
-                  short = omega (arith, decimal-long i, e);
-                };
-          }
+      module _ (b : Bool) (g : b ≡ signRepeated (slice from to s)) where
+        tested : isInteger (slice from to s) ≡ not b
+        unfolding isInteger
+        tested = rw (long s from to sp, le-leb integerLeast (to - from) l, le-leb (to - from) integerMost h, ← g)
 
-pub ruleset integers = (integer-none, integer-long, integer-order, integer-room, integer-is)
+        pub integer-padded : b ≡ true → Worded (checked.Refused valueWrong)
+        integer-padded e = no-integer (rw (tested, e))
+
+        pub integer-is : (i : Integer) (k : ℕ) → b ≡ false → IntegerMet (slice from to s) i → k ≡ length (decimalOf i) → Worded (checked.Good k)
+        unfolding integerValue
+        integer-is i k f m e =
+            record {
+              at-row =
+                  λ d row.
+                  record {
+                    same = rw (tested, f) (ap checked.Good (e ∙ ap (λ (j : Integer). length (decimalOf j)) (m .same)));
+                    short = omega (arith, decimal-long i, e);
+                  };
+            }
+
+pub ruleset integers = (integer-none, integer-long, integer-order, integer-room, integer-padded, integer-is)
 
 -- an option of an enum
 module _ (d : List ℕ) (row : ℕ) (w : Row d row) (k : kind d row ≡ enumForm) where
@@ -130,15 +174,12 @@ module _ (s : List ℕ) (from to : ℕ) (sp : Span s from to) where
   string-empty h = record { at-row = λ d row. record { same = rw (long s from to sp, lt-leb 1 (to - from) (omega arith)); short = tt } }
 
   module _ (h : from < to) where
-    last-byte : byte (slice from to s) (to - from - 1) ≡ byte s (to - 1)
-    last-byte = let e : from + (to - from - 1) ≡ to - 1 = omega arith in part-byte s from to h (to - from - 1) (omega arith) ∙ ap (byte s) e
-
     front : take (to - from - 1) (slice from to s) ≡ slice from (to - 1) s
     front = let e : from + (to - from - 1) ≡ to - 1 = omega arith in take-within s from to (to - from - 1) (omega arith) ∙ ap (λ (n : ℕ). slice from n s) e
 
     stated : stringValue (slice from to s) ≡ when (eqb (byte s (to - 1)) 0 && wellSpelt (slice from (to - 1) s)) (λ _. string (slice from (to - 1) s))
     unfolding stringValue
-    stated = rw (long s from to sp, le-leb 1 (to - from) (omega arith), last-byte, front)
+    stated = rw (long s from to sp, le-leb 1 (to - from) (omega arith), from-end s from to sp 1 (omega arith) (omega arith), front)
 
     pub string-open : (byte s (to - 1) ≡ 0 → ⊥) → AnyWordMet from to (stringValue (slice from to s)) (checked.Refused valueWrong)
     string-open x = record { at-row = λ d row. record { same = rw (stated, ne-eqb (byte s (to - 1)) 0 x); short = tt } }

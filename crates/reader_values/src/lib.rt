@@ -18,12 +18,30 @@ use payload::strings::well_spelt;
 ghost use mathlib.Core.Path.{_≡_};
 ghost use mathlib.Core.Bool.{true};
 ghost use lib.Seq.{slice};
+ghost use Rattle.numbers.specs.Integer.{signRepeated};
 ghost use Rattle.dictionary.specs.Formats.{enumForm};
 ghost use Rattle.dictionary.specs.Rows.{kind};
 ghost use Rattle.dictionary.specs.Given.{Row};
 ghost use Rattle.payload.specs.Fits.{fits};
 ghost use Rattle.payload.specs.Values.{integerValue, optionValue, stringValue, booleanValue, scalarValue};
 ghost use Rattle.reader_values.specs.Words.{Span, WordMet, AnyWordMet};
+
+// "An integer of two or more bytes whose top byte only repeats the sign."
+fn sign_repeated(s: &[u8], from: usize, to: usize) -> bool
+    requires { ⌜ Span (now s) from to ⌝ }
+    ensures { λ r. ⌜ r ≡ signRepeated (slice from to (now (s .entry))) ⌝ }
+{
+    if to - from < 2 {
+        return false;
+    }
+    if s[to - 1] == 0x00 {
+        return s[to - 2] < 0x80;
+    }
+    if s[to - 1] == 0xFF {
+        return s[to - 2] >= 0x80;
+    }
+    false
+}
 
 fn integer_word(s: &[u8], from: usize, to: usize) -> Checked
     requires { ⌜ Span (now s) from to ⌝ }
@@ -34,6 +52,9 @@ fn integer_word(s: &[u8], from: usize, to: usize) -> Checked
         return Checked::Refused(VALUE_WRONG);
     }
     if long > INTEGER_MOST {
+        return Checked::Refused(VALUE_WRONG);
+    }
+    if sign_repeated(s, from, to) {
         return Checked::Refused(VALUE_WRONG);
     }
     Checked::Good(decimal_length(integer_at(s, from, to)))

@@ -12,7 +12,7 @@ use lib.ListN.{length, length-append}
 use Rattle.paper.specs.Limits.{dictionaryMost, payloadMost}
 use Rattle.numbers.specs.Number.{Number, numberOf}
 use Rattle.numbers.proofs.Numbers.{number-written, number-some}
-use Rattle.numbers.proofs.Integers.{brief-says, brief-size, brief-bytes}
+use Rattle.numbers.proofs.Brief.{brief-whole}
 use Rattle.dictionary.specs.Rows.{entries, kind}
 use Rattle.dictionary.specs.Accepts.{accepts}
 use Rattle.dictionary.proofs.Laws.{accepted-header, accepted-family}
@@ -68,7 +68,7 @@ module _ (d : List ℕ) (ok : accepts d ≡ true) where
 
   pub value-written : (row : ℕ) (x : Scalar) → row < entries d → fits d row (formatOf x) ≡ true → allowed d row x ≡ true → Proper x → Holds x (valueBytes x)
   value-written row null h f a p = refl
-  value-written row (integer i) h f a p = let z = brief-size i p in record { least = z .some; most = z .few; bytes = brief-bytes i; says = brief-says i p }
+  value-written row (integer i) h f a p = brief-whole i p
   value-written row (option n) h f a p = let o = option-row d ok row n h f a in number-written n (omega (arith, o .2, entries-few))
   value-written row (string t) h f a p = record { whole = refl; bytes = p }
   value-written row (boolean b) h f a p = refl

@@ -10,14 +10,12 @@ use mathlib.Core.List.{List, [], _∷_, _++_}
 use Prim.Native.Nat.{ℕ, _*_, _≤_}
 use native.Mathlib.Omega.{arith}
 use lib.ListN.{length, length-append}
-use Rattle.numbers.specs.declared.Integer.{Integer}
 use Rattle.numbers.specs.Number.{Number, numberOf}
-use Rattle.numbers.specs.Integer.{Held, briefOf}
 use Rattle.numbers.proofs.Numbers.{number-below, number-written, number-least, number-shortest}
-use Rattle.numbers.proofs.Integers.{brief-says, brief-size, brief-bytes, brief-shortest, says-held}
+use Rattle.numbers.proofs.Brief.{only-brief}
 use Rattle.payload.specs.Tree.{Scalar, null, integer, option, string, boolean, Tuples, none, scalar, inner, formatOf, shapeFormat, size}
 use Rattle.payload.specs.declared.Shape.the-variants.{Set}
-use Rattle.payload.specs.Writes.{Cut, Format, Sized, Tuple, TwosComplement, Holds, Writes, Payload}
+use Rattle.payload.specs.Writes.{Cut, Format, Sized, Tuple, Holds, Writes, Payload}
 use Rattle.payload.specs.Text.{Means}
 use Rattle.text.specs.Shortest.{formByte, tupleOf, valueBytes, shortest, payloadOf}
 
@@ -28,18 +26,9 @@ pub record Brief (P : List ℕ → Type 0) (m b : List ℕ) : Type 0 where
 number-brief : {n : ℕ} {b : List ℕ} → Number n b → Brief (Number n) (numberOf n) b
 number-brief t = let r = number-shortest t in record { written = r .written; least = r .least }
 
-integer-brief : (i : Integer) (v : List ℕ) → TwosComplement i v → Brief (TwosComplement i) (briefOf i) v
-integer-brief i v w =
-    let h : Held i = rw (w .says) at (says-held v (w .bytes) (w .least) (w .most)) in
-    let z = brief-size i h in
-    record {
-      written = record { least = z .some; most = z .few; bytes = brief-bytes i; says = brief-says i h };
-      least = brief-shortest v i (w .bytes) (w .least) (w .says);
-    }
-
 pub value-shortest : (x : Scalar) (v : List ℕ) → Holds x v → Brief (Holds x) (valueBytes x) v
 value-shortest null v h = record { written = refl; least = omega arith }
-value-shortest (integer i) v h = integer-brief i v h
+value-shortest (integer i) v h = let e = only-brief i v .0 h .1 in record { written = rw e at h; least = omega (arith, ap length e) }
 value-shortest (option n) v h = number-brief h
 value-shortest (string t) v h = record { written = record { whole = refl; bytes = h .bytes }; least = omega (arith, ap length (h .whole)) }
 value-shortest (boolean b) v h = record { written = refl; least = omega (arith, ap length h) }

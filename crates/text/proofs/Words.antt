@@ -15,7 +15,7 @@ use Rattle.numbers.specs.declared.Integer.{Integer}
 use Rattle.numbers.specs.declared.Integer.the-variants.{Plus, Minus}
 use Rattle.numbers.specs.Integer.{Held}
 use Rattle.numbers.specs.Decimal.{decimal, decimalOf, digitsOnly}
-use Rattle.numbers.proofs.Integers.{says-held}
+use Rattle.numbers.proofs.Brief.{only-brief}
 use Rattle.numbers.proofs.Decimals.{Led, decimal-led, only-head, Stop, text-cut}
 use Rattle.dictionary.specs.Formats.{nullForm, enumForm}
 use Rattle.dictionary.specs.Rows.{entries, kind, firstChild, childCount, name}
@@ -40,7 +40,7 @@ Proper (boolean b) = Unit {0}
 
 pub holds-proper : (x : Scalar) (v : List ℕ) → Holds x v → Proper x
 holds-proper null v h = tt
-holds-proper (integer i) v h = rw (h .says) at (says-held v (h .bytes) (h .least) (h .most))
+holds-proper (integer i) v h = only-brief i v .0 h .0
 holds-proper (option n) v h = tt
 holds-proper (string t) v h = h .bytes
 holds-proper (boolean b) v h = tt

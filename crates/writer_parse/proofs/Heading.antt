@@ -17,7 +17,7 @@ use Rattle.numbers.specs.declared.Said.the-variants.{Wrong, Is}
 use Rattle.numbers.specs.Decimal.{integral, integerSaid}
 use Rattle.numbers.proofs.Places.{slice-take}
 use Rattle.numbers.proofs.Numbers.{number-few}
-use Rattle.numbers.proofs.Integers.{brief-size}
+use Rattle.numbers.proofs.Brief.{brief-whole}
 use Rattle.numbers.proofs.Decimals.{said-held}
 use Rattle.dictionary.specs.declared.Child.{Child}
 use Rattle.dictionary.specs.declared.Child.the-variants.{At, Nothing}
@@ -259,11 +259,11 @@ module _ (d s : List ℕ) (row at q m : ℕ) (h : m ≡ misfitFor d row integerF
     unfolding scalarFor
     integer-is i e =
         let held = said-held (slice at q s) r i (w .grammar) hr e in
-        let b = brief-size i held in
+        let b = brief-whole i held in
         record {
           met = λ room. record {
             same = λ n. integer-law room n ∙ rw (← h, eq-eqb m accepted z, ← hr, e);
-            fine = record { spans = w .spans; proper = held; small = omega (arith, b .few, w .spans .further) };
+            fine = record { spans = w .spans; proper = held; small = omega (arith, b .most, w .spans .further) };
           };
         }
 

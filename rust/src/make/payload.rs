@@ -11,8 +11,10 @@ const NULL: u8 = 2;
 /// How a payload uses what the paper leaves free, in chances of a hundred.
 #[derive(Clone, Copy)]
 pub struct Style {
-    /// Numbers and integers with more bytes than they need, flags and unread bits set.
+    /// Numbers with more bytes than they need, flags and unread bits set.
     pub loose: usize,
+    /// Integers with bytes on top that only repeat their sign, which is refused.
+    pub padded: usize,
     /// Members of a set in another order than the dictionary's.
     pub shuffled: usize,
     /// Members of a set that are left out.
@@ -21,8 +23,8 @@ pub struct Style {
     pub letters: usize,
 }
 
-pub const PLAIN: Style = Style { loose: 0, shuffled: 0, absent: 0, letters: 48 };
-pub const FREE: Style = Style { loose: 20, shuffled: 60, absent: 30, letters: 48 };
+pub const PLAIN: Style = Style { loose: 0, padded: 0, shuffled: 0, absent: 0, letters: 48 };
+pub const FREE: Style = Style { loose: 20, shuffled: 60, absent: 30, ..PLAIN };
 
 struct Maker<'a> {
     rows: Vec<Row<'a>>,
@@ -141,14 +143,17 @@ impl Maker<'_> {
     fn integer(&mut self) -> Vec<u8> {
         let width = self.random.between(1, 8);
         let mut bytes: Vec<u8> = (0..width).map(|_| self.random.byte()).collect();
-        if !self.slack() {
-            while let [.., last, sign] = bytes[..] {
-                let spare = if last < 0x80 { 0x00 } else { 0xFF };
-                if sign != spare {
-                    break;
-                }
-                bytes.pop();
+        if self.random.chance(self.style.padded) {
+            let sign = if bytes[width - 1] < 0x80 { 0x00 } else { 0xFF };
+            bytes.resize(self.random.between(width, 8), sign);
+            return bytes;
+        }
+        while let [.., last, sign] = bytes[..] {
+            let spare = if last < 0x80 { 0x00 } else { 0xFF };
+            if sign != spare {
+                break;
             }
+            bytes.pop();
         }
         bytes
     }
