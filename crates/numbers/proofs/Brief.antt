@@ -8,7 +8,7 @@
 use mathlib.Core.Path.{_≡_, refl, sym, ap, _∙_}
 use mathlib.Core.Logic.{_↔_}
 use mathlib.Core.List.{List, [], _∷_, _++_}
-use mathlib.Core.Bool.{true, not, _&&_, _||_}
+use mathlib.Core.Bool.{true, _&&_}
 use Prim.Native.Nat.{ℕ, _+_, _-_, _*_, _^_, _<_, _≤_}
 use native.Mathlib.Omega.{arith}
 use lib.ListN.{length, length-append, List·getD-append}
@@ -30,7 +30,7 @@ pub sign-repeated : (v : List ℕ) → (signRepeated v ≡ true) ↔ SignRepeate
 unfolding signRepeated
 sign-repeated v = (there, back)
   where
-    there : leb 2 (length v) && (eqb (top v) 0x00 && ltb (second v) 0x80 || eqb (top v) 0xFF && leb 0x80 (second v)) ≡ true → SignRepeated v
+    there : signRepeated v ≡ true → SignRepeated v
     there e =
         let l = leb-true 2 (length v) (and-left _ _ e) in
         split (eqb (top v) 0x00 && ltb (second v) 0x80)
@@ -39,7 +39,7 @@ sign-repeated v = (there, back)
         let m : eqb (top v) 0xFF && leb 0x80 (second v) ≡ true = rw p at (and-right (leb 2 (length v)) _ e) in
         minus-repeated l (eqb-true (top v) 0xFF (and-left _ _ m)) (leb-true 0x80 (second v) (and-right (eqb (top v) 0xFF) _ m))
 
-    back : SignRepeated v → leb 2 (length v) && (eqb (top v) 0x00 && ltb (second v) 0x80 || eqb (top v) 0xFF && leb 0x80 (second v)) ≡ true
+    back : SignRepeated v → signRepeated v ≡ true
     back (plus-repeated l t s) = rw (le-leb 2 (length v) l, t, lt-ltb (second v) 0x80 s)
     back (minus-repeated l t s) = rw (le-leb 2 (length v) l, t, le-leb 0x80 (second v) s)
 
@@ -47,7 +47,7 @@ pub is-integer : (v : List ℕ) → Bytes v → (isInteger v ≡ true) ↔ TwosC
 unfolding isInteger
 is-integer v h = (there, back)
   where
-    there : leb integerLeast (length v) && leb (length v) integerMost && not (signRepeated v) ≡ true → TwosComplement (integerOf v) v
+    there : isInteger v ≡ true → TwosComplement (integerOf v) v
     there e =
         let a = and-left _ _ e in
         record {
@@ -58,7 +58,7 @@ is-integer v h = (there, back)
           needed = λ r. so-not (signRepeated v) (not-true _ (and-right (leb integerLeast (length v) && leb (length v) integerMost) _ e)) (sign-repeated v .1 r);
         }
 
-    back : TwosComplement (integerOf v) v → leb integerLeast (length v) && leb (length v) integerMost && not (signRepeated v) ≡ true
+    back : TwosComplement (integerOf v) v → isInteger v ≡ true
     back w = rw (le-leb integerLeast (length v) (w .least), le-leb (length v) integerMost (w .most), not-so (signRepeated v) (λ e. w .needed (sign-repeated v .0 e)))
 
 -- a byte t on top of v

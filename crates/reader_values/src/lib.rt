@@ -26,7 +26,7 @@ ghost use Rattle.payload.specs.Fits.{fits};
 ghost use Rattle.payload.specs.Values.{integerValue, optionValue, stringValue, booleanValue, scalarValue};
 ghost use Rattle.reader_values.specs.Words.{Span, WordMet, AnyWordMet};
 
-// "An integer of two or more bytes whose top byte only repeats the sign."
+// Request 6: "any integer of two or more bytes whose top byte only repeats the sign".
 fn sign_repeated(s: &[u8], from: usize, to: usize) -> bool
     requires { ⌜ Span (now s) from to ⌝ }
     ensures { λ r. ⌜ r ≡ signRepeated (slice from to (now (s .entry))) ⌝ }
