@@ -1,4 +1,6 @@
 // Numbers and integers, between bytes and decimal text. What they mean stands in specs/.
+#![tactic(auto)]
+
 ghost use Rattle.std.specs.Prelude.{◌≡◌, [], ◌∷◌, true, ◌+◌, ◌^◌, ◌≤◌, ◌<◌, length};
 ghost use Rattle.std.proofs.Math.Seq.{slice};
 ghost use Rattle.paper.specs.Limits.{integer_least, integer_most, number_most};

@@ -1,4 +1,6 @@
 // The numbers of the paper's two tables that the code uses. Their meaning stands in specs/: Limits and Refusals.
+#![tactic(auto)]
+
 pub mod bytes;
 
 pub const DICTIONARY_LEAST: usize = 22;
