@@ -1,4 +1,6 @@
 // A scalar's value: judged, and measured. What is let through is the length of its text.
+#![tactic(auto)]
+
 ghost use Rattle.std.specs.Prelude.{◌≡◌, true};
 ghost use Rattle.std.proofs.Math.Seq.{slice};
 ghost use Rattle.numbers.specs.Integer.{sign_repeated};
