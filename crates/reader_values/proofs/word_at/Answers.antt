@@ -13,8 +13,8 @@ returns-then-f-eq-NULL c = search (words, rules)
 pub returns-then-f-eq-INTEGER : goal.returns-then-f-eq-INTEGER
 returns-then-f-eq-INTEGER c = search (words, rules)
 
-pub option_word-requires-clause-row_value : goal.option_word-requires-clause-row_value
-option_word-requires-clause-row_value c = search (words, rules)
+pub option_word-requires-clause-is_enum : goal.option_word-requires-clause-is_enum
+option_word-requires-clause-is_enum c = search (words, rules)
 
 pub returns-then-f-eq-ENUM : goal.returns-then-f-eq-ENUM
 returns-then-f-eq-ENUM c = search (words, rules)
