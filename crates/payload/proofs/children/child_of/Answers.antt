@@ -7,8 +7,8 @@ use Rattle.payload.proofs.children.child_of.Goals as goal
 pub format_nibble-requires : goal.format_nibble-requires
 format_nibble-requires c = search (childs, rules)
 
-pub child_numbered-requires-clause-row_bound : goal.child_numbered-requires-clause-row_bound
-child_numbered-requires-clause-row_bound c = search (childs, rules)
+pub child_numbered-requires-clause-row_in : goal.child_numbered-requires-clause-row_in
+child_numbered-requires-clause-row_in c = search (childs, rules)
 
 pub returns-then-format_nibble-eq-SET : goal.returns-then-format_nibble-eq-SET
 returns-then-format_nibble-eq-SET c = search (childs, rules)

@@ -4,8 +4,8 @@ use Rattle.std.proofs.Common.{rules}
 use Rattle.writer_parse.proofs.Heading.{options}
 use Rattle.writer_parse.proofs.heads.option_at.Goals as goal
 
-pub child_named-requires-clause-row_bound : goal.child_named-requires-clause-row_bound
-child_named-requires-clause-row_bound c = search (options, rules)
+pub child_named-requires-clause-row_in : goal.child_named-requires-clause-row_in
+child_named-requires-clause-row_in c = search (options, rules)
 
 pub returns-in-Nothing : goal.returns-in-Nothing
 returns-in-Nothing c = search (options, rules)
