@@ -14,7 +14,7 @@ const DESK_BYTES: usize = DESK_MOST * RECORD_BYTES;
 
 // A desk that bytes spell, or an empty one where they spell none.
 #[repr(C)]
-#[derive(Drop)]
+#[derive(Clone, Copy)]
 pub struct Spelt {
     pub good: bool,
     pub desk: Desk,

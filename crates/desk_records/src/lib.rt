@@ -4,7 +4,7 @@ pub mod tests;
 
 // A record keeps plain numbers, not enums: whatever bytes arrive as a desk are a desk, sound or not, and an unsound one is refused with 20.
 #[repr(C)]
-#[derive(Drop)]
+#[derive(Clone, Copy)]
 pub struct Record {
     // 0 for an empty place
     pub number: u16,
@@ -17,7 +17,7 @@ pub struct Record {
 }
 
 // "failed, which carries no R .. good with R result bytes"
-#[derive(Drop)]
+#[derive(Clone, Copy)]
 pub enum Finish {
     Failed,
     Good(u32),

@@ -13,21 +13,21 @@ ghost use Rattle.numbers.specs.Met.{Wrote, Widened, turned_byte, Summed, NumberM
 use paper::{NUMBER_LEAST, NUMBER_MOST, PAST_END, WIDTH_WRONG};
 
 // What stands where a number is due: a refusal's number, or the value and the width N.
-#[derive(Drop)]
+#[derive(Clone, Copy)]
 pub enum Found {
     Refused(u8),
     Value(usize, usize),
 }
 
 // Plus(n) is n, and Minus(n) is -1 - n.
-#[derive(Drop)]
+#[derive(Clone, Copy)]
 pub enum Integer {
     Plus(u64),
     Minus(u64),
 }
 
 // What a text says: an integer, or none that 8 bytes hold.
-#[derive(Drop)]
+#[derive(Clone, Copy)]
 pub enum Said {
     Wrong,
     Is(Integer),

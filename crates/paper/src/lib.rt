@@ -80,7 +80,7 @@ pub const OPEN_WRONG: u8 = 26;
 pub const AMOUNT_WRONG: u8 = 27;
 
 // What a call of the reader or the writer answers.
-#[derive(Drop)]
+#[derive(Clone, Copy)]
 pub struct Answer {
     pub number: u8,
     pub place: usize,

@@ -11,14 +11,14 @@ ghost use Rattle.payload.specs.Reading.{refusal, answer_of};
 use paper::Answer;
 
 // A value that holds tuples.
-#[derive(Drop)]
+#[derive(Clone, Copy)]
 pub enum Shape {
     Set,
     Array,
 }
 
 // What a check of the paper's order lets through: a refusal's number, or one number.
-#[derive(Drop)]
+#[derive(Clone, Copy)]
 pub enum Checked {
     Refused(u8),
     Good(usize),

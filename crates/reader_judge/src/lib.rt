@@ -12,7 +12,7 @@ use payload::headers::header_agrees;
 
 // A refusal's number and place; or, of the value of a set or array, the budget left and the length of the text between its brackets, and of a payload
 // the count of its tuples and the length of its text.
-#[derive(Drop)]
+#[derive(Clone, Copy)]
 pub enum Judgement {
     Refused(u8, usize),
     Good(usize, usize),

@@ -19,7 +19,7 @@ use reader_values::word_at;
 use repeats::ROLL_BYTES;
 
 // A tuple from its F on: a refusal's number; a scalar's end and the length of its text; or the value of a set or array, from and to.
-#[derive(Drop)]
+#[derive(Clone, Copy)]
 pub enum Body {
     Refused(u8),
     Plain(usize, usize),
@@ -28,7 +28,7 @@ pub enum Body {
 
 // A tuple: a refusal's number; a scalar's end and the length of its text, name and comma included; or a set's or array's row, its value,
 // from and to, and the length of its text without what stands between its brackets.
-#[derive(Drop)]
+#[derive(Clone, Copy)]
 pub enum Member {
     Refused(u8),
     Plain(usize, usize),

@@ -12,7 +12,7 @@ use payload::shapes::shape_of;
 
 // What is written of a tuple: a scalar whole, with its end and the place after its text; or of a set or array what stands before its value, with its
 // row, its value, from and to, and the place after.
-#[derive(Drop)]
+#[derive(Clone, Copy)]
 pub enum Part {
     Plain(usize, usize),
     Group(usize, usize, usize, usize),

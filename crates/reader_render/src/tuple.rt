@@ -6,7 +6,7 @@ ghost use Rattle.reader_render.specs.Rendered.{past, Framed, PartsMet};
 use numbers::{number_value, wide};
 
 // What S says without its low bit, the format in F, and where V begins and ends.
-#[derive(Drop)]
+#[derive(Clone, Copy)]
 pub struct Parts {
     pub number: usize,
     pub form: usize,

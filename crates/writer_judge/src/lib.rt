@@ -5,14 +5,14 @@ pub mod roots;
 pub mod slots;
 
 // What the first pass says of a value: refused, with number and place; or the place after it, the next free slot, the number of its bytes and of its tuples.
-#[derive(Drop)]
+#[derive(Clone, Copy)]
 pub enum Measure {
     Refused(u8, usize),
     Sized(usize, usize, usize, usize),
 }
 
 // How far the first pass has come in a group: the place of the next member, the next free slot, and the bytes, tuples and members so far.
-#[derive(Drop)]
+#[derive(Clone, Copy)]
 pub struct Tally {
     at: usize,
     slot: usize,
@@ -22,14 +22,14 @@ pub struct Tally {
 }
 
 // After a member: the group's answer, or on to the next member.
-#[derive(Drop)]
+#[derive(Clone, Copy)]
 pub enum Step {
     Stop(Measure),
     On(Tally),
 }
 
 // Whether the root may be read on: refused, with number and place, or not.
-#[derive(Drop)]
+#[derive(Clone, Copy)]
 pub enum Root {
     Refused(u8, usize),
     Granted,

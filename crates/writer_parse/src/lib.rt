@@ -8,7 +8,7 @@ use numbers::Integer;
 use payload::Shape;
 
 // A value that needs no members to be read: a scalar, or an object or array that has none. A string stands from its first byte to its last quote.
-#[derive(Drop)]
+#[derive(Clone, Copy)]
 pub enum Value {
     Null,
     Boolean(bool),
@@ -19,7 +19,7 @@ pub enum Value {
 }
 
 // The front of a value: refused, with number and place; a value, with the place after it; or a group with members, with the place of the first.
-#[derive(Drop)]
+#[derive(Clone, Copy)]
 pub enum Head {
     Refused(u8, usize),
     Leaf(Value, usize),
@@ -27,7 +27,7 @@ pub enum Head {
 }
 
 // Which sign a token is: none at all where it breaks its own grammar, by the place of its refusal.
-#[derive(Drop)]
+#[derive(Clone, Copy)]
 pub enum Sign {
     Refused(usize),
     Is(u8),
@@ -35,14 +35,14 @@ pub enum Sign {
 }
 
 // Where a colon is due: the place of the refusal, or the place after it.
-#[derive(Drop)]
+#[derive(Clone, Copy)]
 pub enum Due {
     Refused(usize),
     Met(usize),
 }
 
 // After a member: the place of the refusal, or the place after a comma, or after the bracket that closes the group.
-#[derive(Drop)]
+#[derive(Clone, Copy)]
 pub enum Parted {
     Refused(usize),
     Comma(usize),
@@ -50,7 +50,7 @@ pub enum Parted {
 }
 
 // A name, or all that stands before a member's value: refused, with number and place; or the place after it, the member's number and its row.
-#[derive(Drop)]
+#[derive(Clone, Copy)]
 pub enum Key {
     Refused(u8, usize),
     Found(usize, usize, usize),

@@ -3,7 +3,7 @@ pub mod rendering;
 pub mod tuples;
 
 // Where the second pass is: in the text, in the slots, in the output.
-#[derive(Drop)]
+#[derive(Clone, Copy)]
 pub struct Place {
     pub at: usize,
     pub slot: usize,

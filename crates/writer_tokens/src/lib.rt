@@ -4,7 +4,7 @@ pub mod numerals;
 pub mod tokens;
 
 // What a run is made of: spaces, bytes of a string, bytes of a word, digits, digits and minus signs.
-#[derive(Drop)]
+#[derive(Clone, Copy)]
 pub enum Class {
     Spaces,
     Strings,
@@ -14,7 +14,7 @@ pub enum Class {
 }
 
 // A token, by the place after it; a string by the place of its last quote. One that breaks its own grammar, by the place of its refusal.
-#[derive(Drop)]
+#[derive(Clone, Copy)]
 pub enum Token {
     Refused(usize),
     Sign(u8),
