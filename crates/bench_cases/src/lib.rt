@@ -35,7 +35,14 @@ fn answered(
 }
 
 // A text as it is, a payload in hex.
-fn add_result<W: Write>(to: &mut W, way: Way, out: &mut [u8], pos: usize, res: &[u8], n: usize) -> io::Result<usize>
+fn add_result<W: Write>(
+    to: &mut W,
+    way: Way,
+    out: &mut [u8],
+    pos: usize,
+    res: &[u8],
+    n: usize,
+) -> io::Result<usize>
     requires { pos ≤ length out.old }
     ensures { IfOk result (λ r. r ≤ length out.old) }
 {
@@ -157,6 +164,15 @@ pub fn run_file<R: Read, W: Write>(
     let mut out = [0u8; BUFFER_ROOM];
     let mut dictionary = [0u8; HEX_ROOM];
     let mut bytes = [0u8; HEX_ROOM];
-    let pos = run(input, to, way, &mut buf, &mut dictionary, &mut bytes, res, &mut out)?;
+    let pos = run(
+        input,
+        to,
+        way,
+        &mut buf,
+        &mut dictionary,
+        &mut bytes,
+        res,
+        &mut out,
+    )?;
     bench_lines::send(to, &out, pos)
 }

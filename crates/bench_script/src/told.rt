@@ -15,7 +15,12 @@ fn add_next<W: Write>(to: &mut W, out: &mut [u8], pos: usize, x: &[u8], n: u64) 
     bench_lines::add_decimal(to, out, p, n)
 }
 
-pub fn add_status<W: Write>(to: &mut W, out: &mut [u8], pos: usize, t: desk::Told) -> io::Result<usize>
+pub fn add_status<W: Write>(
+    to: &mut W,
+    out: &mut [u8],
+    pos: usize,
+    t: desk::Told,
+) -> io::Result<usize>
     requires { pos ≤ length out.old }
     ensures ok { IfOk result (λ r. r ≤ length out.old) }
     ensures err { OnErr result (length out.new ≡ length out.old) }
@@ -36,7 +41,12 @@ fn add_operation<W: Write>(to: &mut W, out: &mut [u8], pos: usize, number: u16) 
     add_next(to, out, pos, b" ", number as u64)
 }
 
-pub fn add_list<W: Write>(to: &mut W, out: &mut [u8], pos: usize, l: desk::Listed) -> io::Result<usize>
+pub fn add_list<W: Write>(
+    to: &mut W,
+    out: &mut [u8],
+    pos: usize,
+    l: desk::Listed,
+) -> io::Result<usize>
     requires { pos ≤ length out.old }
     ensures ok { IfOk result (λ r. r ≤ length out.old) }
     ensures err { OnErr result (length out.new ≡ length out.old) }
@@ -53,7 +63,12 @@ pub fn add_list<W: Write>(to: &mut W, out: &mut [u8], pos: usize, l: desk::Liste
     Ok(p)
 }
 
-fn add_counts<W: Write>(to: &mut W, out: &mut [u8], pos: usize, r: desk_records::Record) -> io::Result<usize>
+fn add_counts<W: Write>(
+    to: &mut W,
+    out: &mut [u8],
+    pos: usize,
+    r: desk_records::Record,
+) -> io::Result<usize>
     requires { pos ≤ length out.old }
     ensures { IfOk result (λ r. r ≤ length out.old) }
 {
@@ -62,7 +77,12 @@ fn add_counts<W: Write>(to: &mut W, out: &mut [u8], pos: usize, r: desk_records:
     add_next(to, out, b, b":", r.due as u64)
 }
 
-fn add_record<W: Write>(to: &mut W, out: &mut [u8], pos: usize, r: desk_records::Record) -> io::Result<usize>
+fn add_record<W: Write>(
+    to: &mut W,
+    out: &mut [u8],
+    pos: usize,
+    r: desk_records::Record,
+) -> io::Result<usize>
     requires { pos ≤ length out.old }
     ensures { IfOk result (λ r. r ≤ length out.old) }
 {
@@ -72,7 +92,12 @@ fn add_record<W: Write>(to: &mut W, out: &mut [u8], pos: usize, r: desk_records:
     add_counts(to, out, c, r)
 }
 
-fn add_next_record<W: Write>(to: &mut W, out: &mut [u8], pos: usize, r: desk_records::Record) -> io::Result<usize>
+fn add_next_record<W: Write>(
+    to: &mut W,
+    out: &mut [u8],
+    pos: usize,
+    r: desk_records::Record,
+) -> io::Result<usize>
     requires { pos ≤ length out.old }
     ensures { IfOk result (λ r. r ≤ length out.old) }
 {
@@ -80,7 +105,12 @@ fn add_next_record<W: Write>(to: &mut W, out: &mut [u8], pos: usize, r: desk_rec
     add_record(to, out, p, r)
 }
 
-pub fn add_desk<W: Write>(to: &mut W, out: &mut [u8], pos: usize, d: desk::Desk) -> io::Result<usize>
+pub fn add_desk<W: Write>(
+    to: &mut W,
+    out: &mut [u8],
+    pos: usize,
+    d: desk::Desk,
+) -> io::Result<usize>
     requires { pos ≤ length out.old }
     ensures ok { IfOk result (λ r. r ≤ length out.old) }
     ensures err { OnErr result (length out.new ≡ length out.old) }
@@ -111,7 +141,14 @@ fn place_of(d: desk::Desk, number: u16) -> usize
 }
 
 // The operation's received bytes; status refuses an unsound desk, and says that an unknown number has received none.
-pub fn add_received<W: Write>(to: &mut W, out: &mut [u8], pos: usize, d: desk::Desk, store: &[u8], number: u16) -> io::Result<usize>
+pub fn add_received<W: Write>(
+    to: &mut W,
+    out: &mut [u8],
+    pos: usize,
+    d: desk::Desk,
+    store: &[u8],
+    number: u16,
+) -> io::Result<usize>
     requires { pos ≤ length out.old }
     ensures ok { IfOk result (λ r. r ≤ length out.old) }
     ensures err { OnErr result (length out.new ≡ length out.old) }

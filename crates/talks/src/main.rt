@@ -69,7 +69,12 @@ fn perform<W: Write>(
         Call::Feed(n, count) => moved(to, feed(d, store, n, piece, count), out, pos),
         Call::Start(n) => moved(to, d.start(n), out, pos),
         Call::Failed(n) => moved(to, d.finish(n, desk_records::Finish::Failed), out, pos),
-        Call::Good(n, results) => moved(to, d.finish(n, desk_records::Finish::Good(results)), out, pos),
+        Call::Good(n, results) => moved(
+            to,
+            d.finish(n, desk_records::Finish::Good(results)),
+            out,
+            pos,
+        ),
         Call::Take(n, amount) => moved(to, d.take(n, amount), out, pos),
         Call::Kill(n) => moved(to, d.kill(n), out, pos),
         Call::Close(n) => moved(to, d.close(n), out, pos),
@@ -125,7 +130,14 @@ fn answer_line<W: Write>(
 }
 
 // Answers every line, and says how many bytes of output are then gathered and not yet written.
-fn talk<R: Read, W: Write>(input: &mut R, to: &mut W, buf: &mut [u8], store: &mut [u8], piece: &mut [u8], out: &mut [u8]) -> io::Result<usize>
+fn talk<R: Read, W: Write>(
+    input: &mut R,
+    to: &mut W,
+    buf: &mut [u8],
+    store: &mut [u8],
+    piece: &mut [u8],
+    out: &mut [u8],
+) -> io::Result<usize>
     ensures { IfOk result (λ r. r ≤ length out.old) }
 {
     let mut d = bench_script::fresh();
@@ -152,6 +164,8 @@ fn main(rt: HostRuntime) -> io::Result<()> {
     let mut out = [0u8; BUFFER_ROOM];
     let mut store = [0u8; STORE_BYTES];
     let mut piece = [0u8; HEX_ROOM];
-    let pos = talk(&mut input, &mut to, &mut buf, &mut store, &mut piece, &mut out)?;
+    let pos = talk(
+        &mut input, &mut to, &mut buf, &mut store, &mut piece, &mut out,
+    )?;
     bench_lines::send(&mut to, &out, pos)
 }
