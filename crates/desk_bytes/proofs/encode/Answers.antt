@@ -9,10 +9,10 @@ pub loop-i-init : goal.loop-i-init
 loop-i-init c = search (encodes, unmapped, rules)
 
 pub put_record-p-requires : goal.put_record-p-requires
-put_record-p-requires c = search (encodes, unmapped, rules)
+put_record-p-requires c = search (encodes, rules)
 
 pub loop-i-preserved : goal.loop-i-preserved
-loop-i-preserved c = search (encodes, unmapped, rules)
+loop-i-preserved c = search (encodes, rules)
 
 pub returns : goal.returns
-returns c = search (encodes, unmapped, rules)
+returns c = search (encodes, rules)
