@@ -10,14 +10,14 @@ returns-then-not-block_fine c = search (families, rules)
 pub returns-then-count-lt1 : goal.returns-then-count-lt1
 returns-then-count-lt1 c = search (families, rules)
 
-pub only_strings-requires-clause-count_bound : goal.only_strings-requires-clause-count_bound
-only_strings-requires-clause-count_bound c = search (families, rules)
+pub only_strings-requires-clause-members_in : goal.only_strings-requires-clause-members_in
+only_strings-requires-clause-members_in c = search (families, rules)
 
 pub returns-then-not-only_strings : goal.returns-then-not-only_strings
 returns-then-not-only_strings c = search (families, rules)
 
-pub members_fine-requires-clause-count_bound : goal.members_fine-requires-clause-count_bound
-members_fine-requires-clause-count_bound c = search (families, rules)
+pub members_fine-requires-clause-members_in : goal.members_fine-requires-clause-members_in
+members_fine-requires-clause-members_in c = search (families, rules)
 
 pub returns : goal.returns
 returns c = search (families, rules)

@@ -1,10 +1,7 @@
 -- `checker_children::families_fine` meets its contract: every row's children, with marks that are true from row to row.
 -- Assumes nothing.
 use Rattle.std.proofs.Common.{rules}
-use Prim.Native.Nat.{◌-◌}
 use Rattle.checker_children.proofs.Families.{raising}
-use Rattle.checker_members.proofs.Marking.{Marking}
-use Rattle.dictionary.specs.Accepts.{children_fine}
 use Rattle.checker_children.proofs.families_fine.Goals as goal
 
 pub loop-row-init : goal.loop-row-init

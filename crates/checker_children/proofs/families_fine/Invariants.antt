@@ -1,7 +1,6 @@
 -- `checker_children::families_fine` meets its contract: every row's children, with marks that are true from row to row.
 -- Assumes nothing.
 use Prim.Native.Nat.{◌-◌}
-use Rattle.checker_children.proofs.Families.{raising}
 use Rattle.checker_members.proofs.Marking.{Marking}
 use Rattle.dictionary.specs.Accepts.{children_fine}
 use Rattle.checker_children.proofs.families_fine.Given as goal

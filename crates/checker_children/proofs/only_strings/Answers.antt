@@ -1,10 +1,7 @@
 -- `checker_children::only_strings` meets its contract: every child is a string.
 -- Assumes nothing.
 use Rattle.std.proofs.Common.{rules}
-use Prim.Native.Nat.{◌-◌}
 use Rattle.checker_children.proofs.Blocks.{strings}
-use Rattle.dictionary.specs.Accepts.{string_child}
-use Rattle.paper.specs.Tests.{Passing}
 use Rattle.checker_children.proofs.only_strings.Goals as goal
 
 pub loop-p-init : goal.loop-p-init

@@ -7,8 +7,8 @@ use Rattle.checker_children.proofs.set_fine.Goals as goal
 pub returns-then-not-block_fine : goal.returns-then-not-block_fine
 returns-then-not-block_fine c = search (families, rules)
 
-pub members_fine-requires-clause-count_bound : goal.members_fine-requires-clause-count_bound
-members_fine-requires-clause-count_bound c = search (families, rules)
+pub members_fine-requires-clause-members_in : goal.members_fine-requires-clause-members_in
+members_fine-requires-clause-members_in c = search (families, rules)
 
 pub returns : goal.returns
 returns c = search (families, rules)
