@@ -1,11 +1,16 @@
-// What the programs share: lines of standard input, their fields, hex and decimal, and output that is gathered. What fields, hex and decimal
-// mean stands in specs/; no contract can say what is read and written.
-ghost use Rattle.std.specs.Prelude.{◌≡◌, ◌&&◌, cond, ◌+◌, ◌-◌, ◌≤◌, ◌<◌, length};
+// What the programs share: lines of a reader, their fields, hex and decimal, and output that is gathered for a writer. What fields, hex and
+// decimal mean stands in specs/; no contract can say what standard input gives and standard output takes. An error is the reader's or the
+// writer's own: the buffers then keep their lengths, and a program ends with it.
+#![tactic(auto)]
+
+ghost use Rattle.std.specs.Prelude.{◌≡◌, ◌&&◌, cond, ◌+◌, ◌-◌, ◌≤◌, ◌<◌, length, IfOk, OnErr};
 ghost use Rattle.bench_lines.specs.Digits.{between, decimal_most};
 ghost use Rattle.bench_lines.specs.Fields.{field};
 ghost use Rattle.bench_lines.specs.Met.{Stands, Found, Lies, One, Counts, Digit, Pair, NoValue, Valued, NoBytes, Spelt, NoCase, CaseMet};
 
-use libc::{STDIN_FILENO, STDOUT_FILENO};
+use itoa::Buffer;
+use std::io;
+use std::io::{Read, Write};
 
 pub const TAB: u8 = b'\t';
 
@@ -20,6 +25,9 @@ pub const HEX_ROOM: usize = 32768;
 // The most room that a line may ask for.
 pub const PAYLOAD_ROOM: usize = 65536;
 
+// Room for input and for output that is gathered: one byte more than a line may have.
+pub const BUFFER_ROOM: usize = 65536;
+
 const NAME_MOST: usize = 255;
 
 const NO_DIGIT: u8 = 16;
@@ -28,7 +36,7 @@ const NO_BYTE: u16 = 256;
 
 // A line is what stands from `from` up to `end` in the buffer; `rest` is where the next begins, and `have` bytes were read. Where `long`
 // holds, the line is longer than the buffer and this is its front.
-#[derive(Drop)]
+#[derive(Clone, Copy)]
 pub struct Cursor {
     pub from: usize,
     pub end: usize,
@@ -39,21 +47,21 @@ pub struct Cursor {
 }
 
 // A part of a line.
-#[derive(Drop)]
+#[derive(Clone, Copy)]
 pub struct Span {
     pub from: usize,
     pub end: usize,
 }
 
 // The number that a text says, or 0 and not good.
-#[derive(Drop)]
+#[derive(Clone, Copy)]
 pub struct Value {
     pub good: bool,
     pub value: u64,
 }
 
 // How many bytes a hex text says, or 0 and not good.
-#[derive(Drop)]
+#[derive(Clone, Copy)]
 pub struct Bytes {
     pub good: bool,
     pub count: usize,
@@ -89,14 +97,29 @@ fn shift(s: &mut [u8], from: usize, to: usize) -> usize
 }
 
 // Reads once behind the first `have` bytes, and answers how many there are then; no more than before at the end of input.
-fn refill(s: &mut [u8], have: usize) -> usize
+fn refill<R: Read>(input: &mut R, s: &mut [u8], have: usize) -> io::Result<usize>
     requires { have ≤ length s.old }
-    ensures { (have ≤ result) × (result ≤ length s.old) }
+    ensures { IfOk result (λ r. (have ≤ r) × (r ≤ length s.old)) }
 {
     let part = &mut s[have..];
-    let got = libc::read(STDIN_FILENO, part);
-    let n = io::count(got, part);
-    have + n
+    let n = input.read(part)?;
+    Ok(have + n)
+}
+
+// Reads until the buffer is full or the input ends, and answers how many bytes it put in front.
+pub fn read_full<R: Read>(input: &mut R, s: &mut [u8]) -> io::Result<usize>
+    ensures ok { IfOk result (λ r. r ≤ length s.old) }
+    ensures err { OnErr result (length s.new ≡ length s.old) }
+{
+    let mut have: usize = 0;
+    while have < s.len() {
+        let more = refill(input, s, have)?;
+        if more == have {
+            return Ok(have);
+        }
+        have = more;
+    }
+    Ok(have)
 }
 
 // The line up to `end`, and the next one after its line end.
@@ -129,54 +152,54 @@ fn open_line(have: usize, long: bool) -> Cursor
 }
 
 // Reads on behind the first `have` bytes, which have no line end, until there is one, the buffer is full or the input ends.
-fn fill(s: &mut [u8], have: usize) -> Cursor
+fn fill<R: Read>(input: &mut R, s: &mut [u8], have: usize) -> io::Result<Cursor>
     requires { have ≤ length s.old }
-    ensures { Stands (length s.old) result }
+    ensures { IfOk result (λ c. Stands (length s.old) c) }
 {
     let mut h = have;
     while h < s.len() {
-        let more = refill(s, h);
+        let more = refill(input, s, h)?;
         if more == h {
-            return open_line(h, false);
+            return Ok(open_line(h, false));
         }
         let end = find(s, b'\n', h, more);
         if end < more {
-            return whole(0, end, more);
+            return Ok(whole(0, end, more));
         }
         h = more;
     }
-    open_line(h, true)
+    Ok(open_line(h, true))
 }
 
-fn line_after(s: &mut [u8], rest: usize, have: usize) -> Cursor
+fn line_after<R: Read>(input: &mut R, s: &mut [u8], rest: usize, have: usize) -> io::Result<Cursor>
     requires { (rest ≤ have) × (have ≤ length s.old) }
-    ensures { Stands (length s.old) result }
+    ensures { IfOk result (λ c. Stands (length s.old) c) }
 {
     let end = find(s, b'\n', rest, have);
     if end < have {
-        return whole(rest, end, have);
+        return Ok(whole(rest, end, have));
     }
     let n = shift(s, rest, have);
-    fill(s, n)
+    fill(input, s, n)
 }
 
 // What stands after the end of a line of which the buffer held the front only.
-fn skip(s: &mut [u8]) -> Cursor
-    ensures { Stands (length s.old) result }
+fn skip<R: Read>(input: &mut R, s: &mut [u8]) -> io::Result<Cursor>
+    ensures { IfOk result (λ c. Stands (length s.old) c) }
 {
     let mut turns = u64::MAX;
     while turns > 0 {
         turns -= 1;
-        let have = refill(s, 0);
+        let have = refill(input, s, 0)?;
         if have == 0 {
-            return open_line(0, false);
+            return Ok(open_line(0, false));
         }
         let end = find(s, b'\n', 0, have);
         if end < have {
-            return whole(0, end, have);
+            return Ok(whole(0, end, have));
         }
     }
-    open_line(0, false)
+    Ok(open_line(0, false))
 }
 
 // Before the first line.
@@ -186,16 +209,17 @@ pub fn start() -> Cursor
     open_line(0, false)
 }
 
-// The next line of standard input, in a buffer of one byte more than a line may have.
-pub fn next_line(s: &mut [u8], c: Cursor) -> Cursor
+// The next line of the input, in a buffer of one byte more than a line may have.
+pub fn next_line<R: Read>(input: &mut R, s: &mut [u8], c: Cursor) -> io::Result<Cursor>
     requires { Stands (length s.old) c }
-    ensures { Stands (length s.old) result }
+    ensures ok { IfOk result (λ d. Stands (length s.old) d) }
+    ensures err { OnErr result (length s.new ≡ length s.old) }
 {
     if c.long {
-        let after = skip(s);
-        return line_after(s, after.rest, after.have);
+        let after = skip(input, s)?;
+        return line_after(input, s, after.rest, after.have);
     }
-    line_after(s, c.rest, c.have)
+    line_after(input, s, c.rest, c.have)
 }
 
 // 1 where it holds, else 0.
@@ -412,46 +436,54 @@ fn copy(out: &mut [u8], pos: usize, s: &[u8]) -> usize
 }
 
 // Writes what was gathered.
-pub fn send(out: &[u8], pos: usize)
+pub fn send<W: Write>(to: &mut W, out: &[u8], pos: usize) -> io::Result<()>
     requires { pos ≤ length out.now }
 {
-    io::write_all(STDOUT_FILENO, &out[..pos]);
+    to.write_all(&out[..pos])
 }
 
-// Gathers more output. What was gathered is written first where there is no room behind it.
-pub fn add(out: &mut [u8], pos: usize, s: &[u8]) -> usize
+// Gathers more output. What was gathered is written first where there is no room behind it; where that fails, the buffer is as it was.
+pub fn add<W: Write>(to: &mut W, out: &mut [u8], pos: usize, s: &[u8]) -> io::Result<usize>
     requires { pos ≤ length out.old }
-    ensures { result ≤ length out.old }
+    ensures ok { IfOk result (λ r. r ≤ length out.old) }
+    ensures err { OnErr result (out.new ≡ out.old) }
 {
     if s.len() <= out.len() - pos {
-        return copy(out, pos, s);
+        return Ok(copy(out, pos, s));
     }
-    send(out, pos);
+    send(to, out, pos)?;
     if s.len() <= out.len() {
-        return copy(out, 0, s);
+        return Ok(copy(out, 0, s));
     }
-    io::write_all(STDOUT_FILENO, s);
-    0
+    to.write_all(s)?;
+    Ok(0)
 }
 
 // The first n bytes, or all where there are fewer.
-pub fn add_front(out: &mut [u8], pos: usize, s: &[u8], n: usize) -> usize
+pub fn add_front<W: Write>(
+    to: &mut W,
+    out: &mut [u8],
+    pos: usize,
+    s: &[u8],
+    n: usize,
+) -> io::Result<usize>
     requires { pos ≤ length out.old }
-    ensures { result ≤ length out.old }
+    ensures ok { IfOk result (λ r. r ≤ length out.old) }
+    ensures err { OnErr result (out.new ≡ out.old) }
 {
     if n <= s.len() {
-        return add(out, pos, &s[..n]);
+        return add(to, out, pos, &s[..n]);
     }
-    add(out, pos, s)
+    add(to, out, pos, s)
 }
 
-pub fn add_decimal(out: &mut [u8], pos: usize, n: u64) -> usize
+pub fn add_decimal<W: Write>(to: &mut W, out: &mut [u8], pos: usize, n: u64) -> io::Result<usize>
     requires { pos ≤ length out.old }
-    ensures { result ≤ length out.old }
+    ensures ok { IfOk result (λ r. r ≤ length out.old) }
+    ensures err { OnErr result (out.new ≡ out.old) }
 {
-    let mut text = [0u8; 20];
-    let k = io::decimal(n, &mut text);
-    add(out, pos, &text[..k])
+    let mut text = Buffer::new();
+    add(to, out, pos, text.format(n).as_bytes())
 }
 
 fn glyph(d: u8) -> u8
@@ -463,35 +495,43 @@ fn glyph(d: u8) -> u8
     b'a' + (d - 10)
 }
 
-fn add_pair(out: &mut [u8], pos: usize, x: u8) -> usize
+fn add_pair<W: Write>(to: &mut W, out: &mut [u8], pos: usize, x: u8) -> io::Result<usize>
     requires { pos ≤ length out.old }
-    ensures { result ≤ length out.old }
+    ensures ok { IfOk result (λ r. r ≤ length out.old) }
+    ensures err { OnErr result (out.new ≡ out.old) }
 {
     let mut pair = [0u8; 2];
     pair[0] = glyph(x / 16);
     pair[1] = glyph(x % 16);
-    add(out, pos, &pair)
+    add(to, out, pos, &pair)
 }
 
 // The first n bytes in hex, or all where there are fewer.
-pub fn add_hex(out: &mut [u8], pos: usize, s: &[u8], n: usize) -> usize
+pub fn add_hex<W: Write>(
+    to: &mut W,
+    out: &mut [u8],
+    pos: usize,
+    s: &[u8],
+    n: usize,
+) -> io::Result<usize>
     requires { pos ≤ length out.old }
-    ensures { result ≤ length out.old }
+    ensures ok { IfOk result (λ r. r ≤ length out.old) }
+    ensures err { OnErr result (length out.new ≡ length out.old) }
 {
     let mut p = pos;
     let mut i: usize = 0;
     while i < n {
         if i >= s.len() {
-            return p;
+            return Ok(p);
         }
-        p = add_pair(out, p, s[i]);
+        p = add_pair(to, out, p, s[i])?;
         i += 1;
     }
-    p
+    Ok(p)
 }
 
 // A case of a case file: name, dictionary, bytes and a number, parted by tabs. How many bytes of each were put in front.
-#[derive(Drop)]
+#[derive(Clone, Copy)]
 pub struct Case {
     pub good: bool,
     pub dictionary: usize,
@@ -534,13 +574,14 @@ pub fn read_case(line: &[u8], dictionary: &mut [u8], bytes: &mut [u8]) -> Case
 }
 
 // The line's name and a tab.
-pub fn add_name(out: &mut [u8], pos: usize, line: &[u8]) -> usize
+pub fn add_name<W: Write>(to: &mut W, out: &mut [u8], pos: usize, line: &[u8]) -> io::Result<usize>
     requires { pos ≤ length out.old }
-    ensures { result ≤ length out.old }
+    ensures ok { IfOk result (λ r. r ≤ length out.old) }
+    ensures err { OnErr result (length out.new ≡ length out.old) }
 {
     let end = find(line, TAB, 0, line.len());
-    let p = add(out, pos, &line[..end]);
-    add(out, p, b"\t")
+    let p = add(to, out, pos, &line[..end])?;
+    add(to, out, p, b"\t")
 }
 
 pub fn least(a: usize, b: usize) -> usize
@@ -550,12 +591,18 @@ pub fn least(a: usize, b: usize) -> usize
 }
 
 // "a malformed or over-long line answers its name (or what stands before the first tab, at most 255 bytes of it), a tab and `?`"
-pub fn add_malformed(out: &mut [u8], pos: usize, line: &[u8]) -> usize
+pub fn add_malformed<W: Write>(
+    to: &mut W,
+    out: &mut [u8],
+    pos: usize,
+    line: &[u8],
+) -> io::Result<usize>
     requires { pos ≤ length out.old }
-    ensures { result ≤ length out.old }
+    ensures ok { IfOk result (λ r. r ≤ length out.old) }
+    ensures err { OnErr result (length out.new ≡ length out.old) }
 {
     let end = find(line, TAB, 0, line.len());
     let n = least(end, NAME_MOST);
-    let p = add(out, pos, &line[..n]);
-    add(out, p, b"\t?\n")
+    let p = add(to, out, pos, &line[..n])?;
+    add(to, out, p, b"\t?\n")
 }

@@ -1,4 +1,6 @@
 // Reads a line of a desk's script: docs/BENCH.md has its form. How many words follow the first tells most calls apart.
+#![tactic(auto)]
+
 pub mod told;
 
 ghost use Rattle.std.specs.Prelude.{◌≡◌, length};

@@ -1,7 +1,11 @@
-// Reads one dictionary in hex on standard input and says whether it is accepted. Spaces and line ends between digits are passed over.
+// Reads one dictionary in hex on standard input and says whether it is accepted. Spaces and line ends between digits are passed over. An error
+// is the reader's or the writer's own, and the program ends with it.
+#![tactic(auto)]
+
 ghost use Rattle.std.specs.Prelude.{◌≤◌, length};
 
-use libc::{STDIN_FILENO, STDOUT_FILENO};
+use std::io;
+use std::io::Write;
 
 // More digits and spaces than any dictionary needs; the bytes of that many digits all have room, so that too long a dictionary is not
 // accepted and no hex is told from it.
@@ -32,30 +36,28 @@ fn squeeze(s: &mut [u8], have: usize) -> usize
     n
 }
 
-fn say(digits: &[u8], bytes: &mut [u8]) {
+fn say<W: Write>(to: &mut W, digits: &[u8], bytes: &mut [u8]) -> io::Result<()> {
     let b = bench_lines::unhex(digits, bytes);
     if !b.good {
-        io::write_all(STDOUT_FILENO, b"?\n");
-        return;
+        return to.write_all(b"?\n");
     }
     let n = b.count;
     if checker::accepts(&bytes[..n]) {
-        io::write_all(STDOUT_FILENO, b"accepted\n");
-        return;
+        return to.write_all(b"accepted\n");
     }
-    io::write_all(STDOUT_FILENO, b"not accepted\n");
+    to.write_all(b"not accepted\n")
 }
 
-fn judge(input: &mut [u8], have: usize, bytes: &mut [u8])
+fn judge<W: Write>(to: &mut W, input: &mut [u8], have: usize, bytes: &mut [u8]) -> io::Result<()>
     requires { have ≤ length input.old }
 {
     let n = squeeze(input, have);
-    say(&input[..n], bytes);
+    say(to, &input[..n], bytes)
 }
 
-fn main() {
+fn main(rt: HostRuntime) -> io::Result<()> {
     let mut input = [0u8; INPUT_ROOM];
     let mut bytes = [0u8; BYTES_ROOM];
-    let have = io::read_full(STDIN_FILENO, &mut input);
-    judge(&mut input, have, &mut bytes);
+    let have = bench_lines::read_full(&mut rt.stdin(), &mut input)?;
+    judge(&mut rt.stdout(), &mut input, have, &mut bytes)
 }

@@ -10,8 +10,8 @@ returns-in-Refused c = search (options, rules)
 pub returns-then-w-to : goal.returns-then-w-to
 returns-then-w-to c = search (options, rules)
 
-pub child_numbered-requires-clause-row_bound : goal.child_numbered-requires-clause-row_bound
-child_numbered-requires-clause-row_bound c = search (options, rules)
+pub child_numbered-requires-clause-row_in : goal.child_numbered-requires-clause-row_in
+child_numbered-requires-clause-row_in c = search (options, rules)
 
 pub returns-in-Nothing : goal.returns-in-Nothing
 returns-in-Nothing c = search (options, rules)

@@ -13,8 +13,8 @@ returns-then-n-i c = search (seats, rules)
 pub returns-then-format_nibble-ne-SET : goal.returns-then-format_nibble-ne-SET
 returns-then-format_nibble-ne-SET c = search (seats, rules)
 
-pub child_numbered-requires-clause-row_bound : goal.child_numbered-requires-clause-row_bound
-child_numbered-requires-clause-row_bound c = search (seats, rules)
+pub child_numbered-requires-clause-row_in : goal.child_numbered-requires-clause-row_in
+child_numbered-requires-clause-row_in c = search (seats, rules)
 
 pub returns-in-Nothing : goal.returns-in-Nothing
 returns-in-Nothing c = search (seats, rules)
