@@ -1,4 +1,6 @@
 // The functions that C and Rust link. Numbers and slices only: a slice is a pointer and a length.
+#![tactic(auto)]
+
 mod codec;
 mod operations;
 

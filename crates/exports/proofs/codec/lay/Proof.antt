@@ -1,9 +1,0 @@
--- `exports::codec::lay` meets its contract.
--- Assumes nothing.
-use Rattle.paper.proofs.Lending.{lay-past}
-use borrow.Author.Rules.{rules}
-use Rattle.exports.proofs.codec.lay.Statement.{statement}
-use Rattle.exports.proofs.codec.lay.Tie as tie
-
-pub lay_spec : {M : Type 1} → statement M
-lay_spec = tie.close (tie.spec (λ c. search (lay-past, rules)) (λ c. search (lay-past, rules)) (λ c. search (lay-past, rules)) (λ c. search (lay-past, rules)) (λ c. search (lay-past, rules)))
