@@ -1,4 +1,6 @@
 // The reader: BEJ to JSON text. What it answers stands in the crate payload, specs/Reading.
+#![tactic(auto)]
+
 ghost use Rattle.std.specs.Prelude.{length};
 ghost use Rattle.payload.specs.Reading.{reads};
 ghost use Rattle.payload.specs.Answered.{Answered};
