@@ -1,4 +1,6 @@
 // The writer: text to the shortest BEJ. It judges and measures, then writes: a refusal changes nothing. What it answers stands in crates/text/specs/Writing.
+#![tactic(auto)]
+
 ghost use Rattle.std.specs.Prelude.{◌≡◌, ◌||◌, length, ltb};
 ghost use Rattle.paper.specs.Limits.{payload_most};
 ghost use Rattle.payload.specs.Answered.{Answered};
