@@ -16,19 +16,7 @@ fn read(path: &str) -> String {
 /// A number with the words beside it.
 type Table = BTreeMap<String, (u64, String)>;
 
-/// `dictionaryLeast` is `DICTIONARY_LEAST`.
-fn upper(name: &str) -> String {
-    let mut out = String::new();
-    for c in name.chars() {
-        if c.is_ascii_uppercase() {
-            out.push('_');
-        }
-        out.push(c.to_ascii_uppercase());
-    }
-    out
-}
-
-/// The definitions `name = number` of a file of antt, each with the comment line before it.
+/// The definitions `name = number` of a file of antt, each with the comment line before it. `dictionary_least` is `DICTIONARY_LEAST`.
 fn defined(path: &str) -> Table {
     let text = read(path);
     let mut words = String::new();
@@ -38,7 +26,7 @@ fn defined(path: &str) -> Table {
             words = comment.to_string();
         } else if let Some((name, number)) = line.split_once(" = ") {
             if let Ok(number) = number.parse() {
-                table.insert(upper(name), (number, words.clone()));
+                table.insert(name.to_ascii_uppercase(), (number, words.clone()));
                 words.clear();
             }
         }

@@ -1,4 +1,6 @@
 // The dictionary checker: exactly document 01's rules, for any bytes. The rules stand in the crate dictionary, specs/Accepts.
+#![tactic(auto)]
+
 ghost use Rattle.std.specs.Prelude.{◌≡◌};
 ghost use Rattle.dictionary.specs.Accepts.{accepts};
 

@@ -1,4 +1,6 @@
 // The children's share of the dictionary checker: where a row's children stand, and what each format asks of them.
+#![tactic(auto)]
+
 ghost use Rattle.std.specs.Prelude.{◌≡◌, ◌+◌, ◌≤◌, ◌<◌, length};
 ghost use Rattle.paper.specs.Tests.{all};
 ghost use Rattle.dictionary.specs.Rows.{row_at, row_bytes};
@@ -25,7 +27,7 @@ fn has_none(d: &[u8], row: usize) -> bool
 
 fn block_fine(d: &[u8], n: usize, row: usize) -> bool
     requires rowed { Rowed d.now n }
-    requires row_lt_n { row < n }
+    requires row_in { row < n }
     ensures { result ≡ block_fine d.now row }
 {
     if has_none(d, row) {
@@ -44,7 +46,7 @@ fn block_fine(d: &[u8], n: usize, row: usize) -> bool
 // All children, `count` rows from `first` on, are strings.
 fn only_strings(d: &[u8], n: usize, first: usize, count: usize) -> bool
     requires rowed { Rowed d.now n }
-    requires count_bound { first + count ≤ n }
+    requires members_in { first + count ≤ n }
     ensures { result ≡ all count (string_child d.now first) }
 {
     let mut p: usize = 0;
@@ -60,7 +62,7 @@ fn only_strings(d: &[u8], n: usize, first: usize, count: usize) -> bool
 fn set_fine(d: &[u8], n: usize, row: usize, marks: &mut [u8; ROWS_MOST]) -> bool
     requires named { Named d.now n }
     requires marks { Marks d.now marks.old }
-    requires row_lt_n { row < n }
+    requires row_in { row < n }
     ensures { Marked d.now (set_fine d.now row) result marks.new }
 {
     if !block_fine(d, n, row) {
@@ -71,7 +73,7 @@ fn set_fine(d: &[u8], n: usize, row: usize, marks: &mut [u8; ROWS_MOST]) -> bool
 
 fn array_fine(d: &[u8], n: usize, row: usize) -> bool
     requires rowed { Rowed d.now n }
-    requires row_lt_n { row < n }
+    requires row_in { row < n }
     ensures { result ≡ array_fine d.now row }
 {
     if !block_fine(d, n, row) {
@@ -86,7 +88,7 @@ fn array_fine(d: &[u8], n: usize, row: usize) -> bool
 fn enum_fine(d: &[u8], n: usize, row: usize, marks: &mut [u8; ROWS_MOST]) -> bool
     requires named { Named d.now n }
     requires marks { Marks d.now marks.old }
-    requires row_lt_n { row < n }
+    requires row_in { row < n }
     ensures { Marked d.now (enum_fine d.now row) result marks.new }
 {
     if !block_fine(d, n, row) {
@@ -119,7 +121,7 @@ fn leaf(format: usize) -> bool
 fn children_fine(d: &[u8], n: usize, row: usize, marks: &mut [u8; ROWS_MOST]) -> bool
     requires named { Named d.now n }
     requires marks { Marks d.now marks.old }
-    requires row_lt_n { row < n }
+    requires row_in { row < n }
     ensures { Marked d.now (children_fine d.now row) result marks.new }
 {
     let format = format_nibble(d, row);

@@ -1,4 +1,6 @@
 // The header's share of the dictionary checker: "length within the table; tag 0; .. row 0 is a set".
+#![tactic(auto)]
+
 ghost use Rattle.std.specs.Prelude.{◌≡◌};
 ghost use Rattle.dictionary.specs.Accepts.{header_fine};
 

@@ -1,4 +1,6 @@
 // The share of the dictionary checker that sets and enums have alike: "The child at position p has sequence number p", and their children "are named, no two alike".
+#![tactic(auto)]
+
 ghost use Rattle.std.specs.Prelude.{◌≡◌, true, ◌+◌, ◌-◌, ◌≤◌, ◌<◌};
 ghost use Rattle.std.proofs.Math.Seq.{slice};
 ghost use Rattle.paper.specs.Tests.{all, same, Passing};
@@ -25,7 +27,7 @@ fn alike(d: &[u8], n: usize, row: usize, at: usize, long: usize) -> bool
 // The child at position p has a name that no elder sibling has.
 fn unlike_elders(d: &[u8], n: usize, first: usize, p: usize) -> bool
     requires named { Named d.now n }
-    requires p_bound { first + p < n }
+    requires member_in { first + p < n }
     ensures { result ≡ unlike d.now first p }
 {
     let long = name_length(d, first + p);
@@ -47,7 +49,7 @@ fn unlike_elders(d: &[u8], n: usize, first: usize, p: usize) -> bool
 fn settled_front(d: &[u8], n: usize, first: usize, count: usize, marks: &[u8; ROWS_MOST]) -> usize
     requires rowed { Rowed d.now n }
     requires marks { Marks d.now marks.now }
-    requires count_bound { first + count ≤ n }
+    requires members_in { first + count ≤ n }
     ensures { Passing (member d.now first) count result }
 {
     let mut p = count;
@@ -67,7 +69,7 @@ fn settled_front(d: &[u8], n: usize, first: usize, count: usize, marks: &[u8; RO
 fn settle(d: &[u8], n: usize, first: usize, p: usize, marks: &mut [u8; ROWS_MOST]) -> bool
     requires named { Named d.now n }
     requires marks { Marks d.now marks.old }
-    requires p_bound { (first + p < n) × (all p (member d.now first) ≡ true) }
+    requires member_in { (first + p < n) × (all p (member d.now first) ≡ true) }
     ensures { Marked d.now (member d.now first p) result marks.new }
 {
     let row = first + p;
@@ -91,7 +93,7 @@ pub fn members_fine(
 ) -> bool
     requires named { Named d.now n }
     requires marks { Marks d.now marks.old }
-    requires count_bound { first + count ≤ n }
+    requires members_in { first + count ≤ n }
     ensures { Marked d.now (all count (member d.now first)) result marks.new }
 {
     let mut p = settled_front(d, n, first, count, marks);

@@ -1,4 +1,6 @@
 // The names' share of the dictionary checker: "A name is offset 0 with length 0, or at least 2 bytes ..".
+#![tactic(auto)]
+
 ghost use Rattle.std.specs.Prelude.{◌≡◌, ◌+◌, ◌≤◌, ◌<◌, length};
 ghost use Rattle.paper.specs.Tests.{all};
 ghost use Rattle.dictionary.specs.Accepts.{name_byte, name_byte_at, name_fine};
@@ -39,7 +41,7 @@ fn name_bytes(d: &[u8], at: usize, n: usize) -> bool
 // The name of a row, if it has one, keeps the rule.
 fn name_fine(d: &[u8], n: usize, row: usize) -> bool
     requires rowed { Rowed d.now n }
-    requires row_lt_n { row < n }
+    requires row_in { row < n }
     ensures { result ≡ name_fine d.now row }
 {
     let long = name_length(d, row);

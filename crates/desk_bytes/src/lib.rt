@@ -1,4 +1,6 @@
 // The bytes of a desk (specs/Bytes.antt): read and written.
+#![tactic(auto)]
+
 ghost use Rattle.std.specs.Prelude.{◌≡◌, ◌+◌, ◌≤◌, length, drop};
 ghost use Rattle.numbers.specs.Met.{Wrote};
 ghost use Rattle.desk_bytes.specs.Bytes.{record_bytes, decode_record, encode_record};

@@ -1,4 +1,6 @@
 // The desk's calls for callers that keep a desk as bytes (specs/Served.antt): each reads the bytes, makes the call and writes the bytes back.
+#![tactic(auto)]
+
 ghost use Rattle.std.specs.Prelude.{◌≡◌, [], set};
 ghost use Rattle.desk_records.specs.declared.Finish.TheVariants.{Failed, Good};
 ghost use Rattle.desk_laws.specs.State.{call, to_open, to_feed, to_start, to_finish, to_take, to_kill, to_close, to_tell};

@@ -14,7 +14,7 @@ use Rattle.desk.proofs.Settling.{full-fed}
 use Rattle.desk_laws.specs.View.{GoodDesk, Kept, see}
 use Rattle.desk_laws.specs.State.{Asked, to_open, to_feed, to_start, to_finish, to_take, to_kill, to_close, to_tell, call, number_in, Done, makes}
 use Rattle.desk_laws.specs.Refusing.{MovesBy, Ready, Admitted, Takes, opens, moves, tells_known, tells_unknown}
-use Rattle.desk_laws.proofs.Putting.{kept, seen}
+use Rattle.desk_laws.proofs.Putting.{seen}
 use Rattle.desk_laws.proofs.ByNumber.{call-moves}
 use Rattle.desk_laws.proofs.Opening.{open-here}
 use Rattle.desk_laws.proofs.Feeding.{feed_adds}

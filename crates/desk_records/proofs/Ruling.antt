@@ -40,6 +40,6 @@ pub grown-done : (r : Record) (count s : ℕ) (a : Record) → s ≡ cond (eqb (
 unfolding feeding
 grown-done r count s a e f = rw (f, e)
 
-pub ruleset rules = (suits-done, sound-done, owing-done, new-done, grown-done)
+pub ruleset ruling = (suits-done, sound-done, owing-done, new-done, grown-done)
 
 pub ruleset outcomes = (failed-done, good-done)

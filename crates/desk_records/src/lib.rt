@@ -1,4 +1,6 @@
 // One operation's record (document 01, "The desk's states"): which records may stand on a desk, and how each call moves one.
+#![tactic(auto)]
+
 pub mod records;
 pub mod tests;
 

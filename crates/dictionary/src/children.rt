@@ -11,8 +11,8 @@ use crate::rows::{child_count, first_child, name_length, name_offset};
 
 // The row's name as a part of the lent bytes, without its closing 00; nothing where the row has none.
 pub fn name_of<'a>(d: &'a [u8], row: usize) -> &'a [u8]
-    requires d_value { accepts d.now ≡ true }
-    requires row_bound { row < entries d.now }
+    requires accepted { accepts d.now ≡ true }
+    requires row_in { row < entries d.now }
     ensures { result.now ≡ name d.now row }
 {
     let long = name_length(d, row);
@@ -38,8 +38,8 @@ pub fn name_long(d: &[u8], row: usize) -> usize
 
 // In an accepted dictionary a child stands at the position that its number says.
 pub fn child_numbered(d: &[u8], row: usize, number: usize) -> Child
-    requires d_value { accepts d.now ≡ true }
-    requires row_bound { (row < entries d.now) × (parent d.now row ≡ true) }
+    requires accepted { accepts d.now ≡ true }
+    requires row_in { (row < entries d.now) × (parent d.now row ≡ true) }
     ensures { result ≡ child_numbered d.now row number }
 {
     if number < child_count(d, row) {
@@ -51,8 +51,8 @@ pub fn child_numbered(d: &[u8], row: usize, number: usize) -> Child
 // The first child with that name. A sibling whose name has another length is left before any byte is looked at; any other at
 // the first byte that differs.
 pub fn child_named(d: &[u8], row: usize, text: &[u8]) -> Child
-    requires d_value { accepts d.now ≡ true }
-    requires row_bound { (row < entries d.now) × (parent d.now row ≡ true) }
+    requires accepted { accepts d.now ≡ true }
+    requires row_in { (row < entries d.now) × (parent d.now row ≡ true) }
     ensures { result ≡ child_named d.now row text.now }
 {
     let first = first_child(d, row);

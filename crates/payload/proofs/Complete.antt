@@ -18,7 +18,7 @@ use Rattle.payload.specs.declared.Shape.{Shape}
 use Rattle.payload.specs.declared.Shape.TheVariants.{Set, Array}
 use Rattle.payload.specs.Writes.{Cut, Tuple, Holds, Writes}
 use Rattle.payload.specs.Fits.{known, child, fresh, fits, allowed, Sits, Fits}
-use Rattle.payload.specs.Reading.{Single, plain, group, number_for, before, value, body_at, tuple_at, run, inside_of}
+use Rattle.payload.specs.Reading.{Single, plain, group, number_for, before, body_at, tuple_at, run, inside_of}
 use Rattle.payload.specs.Lying.{Lies}
 use Rattle.payload.proofs.Lying.{lies-order, cut_front, cut_rest, lies-is, number-goes}
 use Rattle.payload.proofs.Scalars.{scalar_complete}

@@ -11,7 +11,7 @@ use native.Mathlib.Numerals.{add-one}
 use lib.ListN.{length}
 use lib.Seq.{slice, slice_empty, slice-cons}
 use lib.Dec.{leb, eqb}
-use borrow.Author.Tests.{lt-leb, le-leb, eq-eqb, ne_eqb, not-true, not-false}
+use borrow.Author.Tests.{lt-leb, le-leb, eq-eqb, ne_eqb}
 use Rattle.paper.specs.Limits.{payload_least}
 use Rattle.paper.specs.Tests.{same}
 use Rattle.paper.proofs.Tests.{and-not-left}
@@ -103,12 +103,12 @@ module _ (s : List ℕ) (from to : ℕ) (sp : (from ≤ to) × (to ≤ length s)
     spell_step h = ap well_spelt (slice-cons i to s 0 h sp.1 ∙ ap (λ (j : ℕ). byte s i ∷ slice j to s) (sym (add-one i)))
 
     module _ (h : i < to) (t : Bool) (e : t ≡ string_byte (byte s i)) where
-      pub spell_stop : not t ≡ true → false ≡ well_spelt (slice from to s)
-      spell_stop n = sym (k.rest ∙ spell_step h ∙ and-not-left _ _ (sym e ∙ not-true t n))
+      pub spell_stop : t ≡ false → false ≡ well_spelt (slice from to s)
+      spell_stop n = sym (k.rest ∙ spell_step h ∙ and-not-left _ _ (sym e ∙ n))
 
-      pub spell_more : not t ≡ false → Spelling s from to (i + 1)
+      pub spell_more : t ≡ true → Spelling s from to (i + 1)
       spell_more n =
-          let x : string_byte (byte s i) ≡ true = sym e ∙ not-false t n in
+          let x : string_byte (byte s i) ≡ true = sym e ∙ n in
           record { within = omega arith; rest = k.rest ∙ spell_step h ∙ rw x }
 
     pub spell_done : to ≤ i → true ≡ well_spelt (slice from to s)

@@ -26,7 +26,7 @@ use Rattle.payload.specs.Header.{version_bytes, header_with, header_agrees}
 use Rattle.payload.specs.Writes.{Cut, Tuple, Writes}
 use Rattle.payload.specs.Fits.{Fits}
 use Rattle.payload.specs.Text.{root_count}
-use Rattle.payload.specs.Reading.{number, inside_of, root_at}
+use Rattle.payload.specs.Reading.{inside_of, root_at}
 use Rattle.payload.specs.Lying.{Lies}
 use Rattle.payload.specs.Refusing.{WithHeader}
 use Rattle.payload.proofs.Lying.{lies-end}

@@ -22,7 +22,7 @@ use Rattle.payload.specs.declared.Shape.{Shape}
 use Rattle.payload.specs.Writes.{Cut, Tuple, Holds, Writes}
 use Rattle.payload.specs.Fits.{known, child, fresh, fits, allowed, Sits, Fits}
 use Rattle.payload.specs.Values.{scalar_value}
-use Rattle.payload.specs.Reading.{Single, plain, group, number_for, before, number, value, shape_of, body_at, tuple_at, run, inside_of}
+use Rattle.payload.specs.Reading.{Single, plain, group, number_for, before, value, shape_of, body_at, tuple_at, run, inside_of}
 use Rattle.payload.specs.Lying.{Lies, Read}
 use Rattle.payload.specs.Reached.{Many}
 use Rattle.payload.proofs.Lying.{join, recast, part, number_read, renumber}

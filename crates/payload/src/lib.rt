@@ -1,4 +1,6 @@
 // What reader and writer share of a payload: header, formats, shapes, strings, children, and what a refusal answers. What payloads mean, and what the reader answers, stands in specs/.
+#![tactic(auto)]
+
 pub mod children;
 pub mod formats;
 pub mod headers;

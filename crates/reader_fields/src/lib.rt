@@ -1,4 +1,6 @@
 // A tuple's S, F and L: the checks that the root and every other tuple share. A refusal is its number alone: its place is the tuple's start.
+#![tactic(auto)]
+
 ghost use Rattle.std.specs.Prelude.{◌≤◌, length};
 ghost use Rattle.reader_fields.specs.Fields.{SequenceMet, FormatMet, ExtentMet};
 

@@ -16,7 +16,7 @@ use Rattle.numbers.specs.Met.{NumberMet}
 use Rattle.payload.specs.Tree.{Tuples}
 use Rattle.payload.specs.Fits.{child}
 use Rattle.payload.specs.Text.{label, comma_at, text_of}
-use Rattle.payload.specs.Reading.{Single, plain, group, shape_of, number_for, before, number, tuple_at, run, inside_of}
+use Rattle.payload.specs.Reading.{Single, plain, group, shape_of, number_for, before, tuple_at, run, inside_of}
 use Rattle.payload.proofs.Parts.{value-met, place-one, place_after}
 use Rattle.payload.proofs.Steps.{run_more, run-done, inside-deep, inside_at, inside-ends, one_long, none-long, before-long}
 use Rattle.repeats.specs.Roll.{roll_bytes, Kept}

@@ -1,4 +1,6 @@
 // The first pass: judges a payload in the paper's order of checks, and measures its text. Nothing is written. What it answers stands in the crate payload, specs/Reading.
+#![tactic(auto)]
+
 pub mod group;
 pub mod root;
 

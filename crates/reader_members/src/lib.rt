@@ -1,3 +1,5 @@
 // One tuple in the value of a set or array, in the order of its checks, and the length of its text. The first pass calls it for each.
+#![tactic(auto)]
+
 pub mod member;
 pub mod seat;

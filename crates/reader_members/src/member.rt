@@ -44,7 +44,7 @@ fn comma_long(i: usize) -> usize
 // What stands before a member's value: a comma, and in a set its name in quotes and a colon.
 fn front_long(d: &[u8], row: usize, i: usize, c: usize) -> usize
     requires row { Row d.now row }
-    requires row_2 { Row d.now c }
+    requires child { Row d.now c }
     ensures { FrontMet d.now row i c result }
 {
     if format_nibble(d, row) != SET {
@@ -56,7 +56,7 @@ fn front_long(d: &[u8], row: usize, i: usize, c: usize) -> usize
 // "deferred bit and format supported; format fits the row; L; room in the enclosing value", and a scalar's value.
 fn body_at(d: &[u8], s: &[u8], row: usize, at: usize, end: usize) -> Body
     requires row { Row d.now row }
-    requires end_in_bounds { (end ≤ length s.now) × (length s.now ≤ payload_most) }
+    requires inside { (end ≤ length s.now) × (length s.now ≤ payload_most) }
     ensures { BodyMet d.now s.now row at end result }
 {
     match format_at(s, at, end) {

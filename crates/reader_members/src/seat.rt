@@ -15,7 +15,7 @@ use repeats::{ROLL_BYTES, give, given};
 
 // "sequence known; repeat": the child's row. A child that is taken is put on the roll.
 pub fn seat_at(d: &[u8], row: usize, i: usize, n: usize, bits: &mut [u8; ROLL_BYTES]) -> Checked
-    requires group_row { GroupRow d.now row }
+    requires group { GroupRow d.now row }
     requires bits_len { length bits.old ≡ roll_bytes }
     ensures { SeatMet d.now row i n bits.old result bits.new }
 {

@@ -25,7 +25,7 @@ use Rattle.payload.specs.Tree.{Scalar, Tuples, none, scalar, inner, count}
 use Rattle.payload.specs.Fits.{GroupRow, known, child, fresh, fits}
 use Rattle.payload.specs.Text.{label, comma_at, text_of}
 use Rattle.payload.specs.Values.{worth, scalar_value}
-use Rattle.payload.specs.Reading.{Single, plain, group, number_for, before, value, shape_of, body_at, tuple_at, run, inside_of}
+use Rattle.payload.specs.Reading.{Single, plain, group, number_for, before, shape_of, body_at, tuple_at, run, inside_of}
 use Rattle.payload.proofs.Lying.{lies-end}
 use Rattle.paper.proofs.Checks.{never, same_place, same_thing, needed, followed}
 use Rattle.payload.proofs.Taken.{numbered, valued}

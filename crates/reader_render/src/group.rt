@@ -14,16 +14,16 @@ use numbers::put;
 use payload::shapes::{closes, opens, shape_of};
 
 fn put_opening(d: &[u8], row: usize, out: &mut [u8], pos: usize) -> usize
-    requires group_row { GroupRow d.now row }
-    requires pos_in_bounds { pos < length out.old }
+    requires group { GroupRow d.now row }
+    requires has_room { pos < length out.old }
     ensures { Wrote out.old pos (opens (shape_of (kind d.now row)) ∷ []) result out.new }
 {
     put(out, pos, opens(shape_of(format_nibble(d, row))))
 }
 
 fn put_closing(d: &[u8], row: usize, out: &mut [u8], pos: usize) -> usize
-    requires group_row { GroupRow d.now row }
-    requires pos_in_bounds { pos < length out.old }
+    requires group { GroupRow d.now row }
+    requires has_room { pos < length out.old }
     ensures { Wrote out.old pos (closes (shape_of (kind d.now row)) ∷ []) result out.new }
 {
     put(out, pos, closes(shape_of(format_nibble(d, row))))
@@ -40,8 +40,8 @@ pub fn render(
     out: &mut [u8],
     pos: usize,
 ) -> usize
-    requires accepted_in { AcceptedIn d.now s.now room row from to }
-    requires to_in_bounds { pos + length (shown d.now s.now room row from to) ≤ length out.old }
+    requires accepted { AcceptedIn d.now s.now room row from to }
+    requires has_room { pos + length (shown d.now s.now room row from to) ≤ length out.old }
     ensures { Wrote out.old pos (shown d.now s.now room row from to) result out.new }
 {
     let mut w = put_opening(d, row, out, pos);

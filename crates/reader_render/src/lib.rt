@@ -1,4 +1,6 @@
 // The second pass: writes the text of a payload that the first pass has accepted. It judges nothing: every place that it reads is known to be right.
+#![tactic(auto)]
+
 pub mod group;
 pub mod member;
 pub mod piece;
@@ -16,7 +18,7 @@ use paper::{DEPTH_MOST, PAYLOAD_LEAST};
 // The text of a payload, to the front of `out`: the root is a tuple behind the header.
 pub fn render_payload(d: &[u8], s: &[u8], out: &mut [u8]) -> usize
     requires accepted { Accepted d.now s.now }
-    requires s_in_bounds { length (payload_text d.now s.now) ≤ length out.old }
+    requires has_room { length (payload_text d.now s.now) ≤ length out.old }
     ensures { Wrote out.old 0 (payload_text d.now s.now) result out.new }
 {
     let t = tuple_at(s, PAYLOAD_LEAST);

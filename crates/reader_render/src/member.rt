@@ -29,7 +29,7 @@ pub fn put_member(
     pos: usize,
 ) -> Part
     requires ready { Ready d.now s.now row p }
-    requires p_in_bounds { pos + length (member_text d.now s.now row i p) ≤ length out.old }
+    requires has_room { pos + length (member_text d.now s.now row i p) ≤ length out.old }
     ensures { PartMet d.now s.now row i p out.old pos result out.new }
 {
     let t = tuple_at(s, p);

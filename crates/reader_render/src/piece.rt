@@ -52,7 +52,7 @@ fn put_comma(i: usize, out: &mut [u8], pos: usize) -> usize
 // A set's member has its name before it, an array's nothing.
 fn put_label(d: &[u8], g: Shape, row: usize, out: &mut [u8], pos: usize) -> usize
     requires row { Row d.now row }
-    requires row_in_bounds { pos + length (labelled d.now g row) ≤ length out.old }
+    requires has_room { pos + length (labelled d.now g row) ≤ length out.old }
     ensures { Wrote out.old pos (labelled d.now g row) result out.new }
 {
     match g {
@@ -67,7 +67,7 @@ fn put_label(d: &[u8], g: Shape, row: usize, out: &mut [u8], pos: usize) -> usiz
 // What stands before the member i: a comma, but for the first, and its label.
 pub fn put_lead(d: &[u8], g: Shape, row: usize, i: usize, out: &mut [u8], pos: usize) -> usize
     requires row { Row d.now row }
-    requires i_in_bounds { pos + length (lead d.now g row i) ≤ length out.old }
+    requires has_room { pos + length (lead d.now g row i) ≤ length out.old }
     ensures { Wrote out.old pos (lead d.now g row i) result out.new }
 {
     let p = put_comma(i, out, pos);

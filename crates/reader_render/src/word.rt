@@ -22,7 +22,7 @@ fn put_boolean(x: u8, out: &mut [u8], pos: usize) -> usize
 // The option is the row's child with that number.
 fn put_option(d: &[u8], s: &[u8], row: usize, from: usize, out: &mut [u8], pos: usize) -> usize
     requires optional { Optional d.now s.now row from }
-    requires from_in_bounds { pos + length (option_text d.now s.now row from) ≤ length out.old }
+    requires has_room { pos + length (option_text d.now s.now row from) ≤ length out.old }
     ensures { Wrote out.old pos (option_text d.now s.now row from) result out.new }
 {
     let option = row_of(child_numbered(d, row, number_value(s, from)));
@@ -41,7 +41,7 @@ pub fn put_word(
     pos: usize,
 ) -> usize
     requires worth { Worth d.now s.now row form from to }
-    requires to_in_bounds { pos + length (word_at d.now s.now row form from to) ≤ length out.old }
+    requires has_room { pos + length (word_at d.now s.now row form from to) ≤ length out.old }
     ensures { Wrote out.old pos (word_at d.now s.now row form from to) result out.new }
 {
     if form == STRING {

@@ -1,4 +1,6 @@
 // A scalar's value: judged, and measured. What is let through is the length of its text.
+#![tactic(auto)]
+
 ghost use Rattle.std.specs.Prelude.{◌≡◌, true};
 ghost use Rattle.std.proofs.Math.Seq.{slice};
 ghost use Rattle.numbers.specs.Integer.{sign_repeated};
@@ -54,7 +56,7 @@ fn integer_word(s: &[u8], from: usize, to: usize) -> Checked
 // The option's number is a field, so it can fail as one; then it fills V and is known.
 fn option_word(d: &[u8], s: &[u8], row: usize, from: usize, to: usize) -> Checked
     requires row { Row d.now row }
-    requires row_value { kind d.now row ≡ enum_form }
+    requires is_enum { kind d.now row ≡ enum_form }
     requires span { Span s.now from to }
     ensures { WordMet d.now row from to (option_value d.now row (slice from to s.now)) result }
 {
@@ -108,7 +110,7 @@ fn boolean_word(s: &[u8], from: usize, to: usize) -> Checked
 // V, of the format f, which fits the row.
 pub fn word_at(d: &[u8], s: &[u8], row: usize, f: usize, from: usize, to: usize) -> Checked
     requires row { Row d.now row }
-    requires f_value { fits d.now row f ≡ true }
+    requires fits_row { fits d.now row f ≡ true }
     requires span { Span s.now from to }
     ensures { WordMet d.now row from to (scalar_value d.now row f (slice from to s.now)) result }
 {

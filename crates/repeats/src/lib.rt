@@ -1,4 +1,6 @@
 // Which children of a set have been given, a bit for each row of the dictionary: a repeat is seen at one look, whatever the order.
+#![tactic(auto)]
+
 ghost use Rattle.std.specs.Prelude.{◌≡◌, ◌<◌};
 ghost use Rattle.repeats.specs.Roll.{rows_most, marked, Power, Open, Gave};
 

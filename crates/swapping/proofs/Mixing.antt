@@ -8,7 +8,7 @@ use mathlib.Core.Bool.{false}
 use mathlib.Core.List.{List, [], ◌∷◌, map}
 use lib.Dec.{eqb}
 use borrow.Author.Tests.{eqb-true, eqb-false}
-use Rattle.swapping.specs.Calls.{Calls, Good, Touches, run, answers_to, own, Roomy, Alike}
+use Rattle.swapping.specs.Calls.{Calls, Good, Finds, Touches, run, answers_to, own, Roomy, Alike}
 use Rattle.paper.proofs.Tests.{split}
 
 module _ (C : Calls) (touches : (c : C.Call) → Touches C c) where
@@ -27,29 +27,61 @@ module _ (C : Calls) (touches : (c : C.Call) → Touches C c) where
   seen_after v (c ∷ cs) [] = v
   seen_after v (c ∷ cs) (a ∷ as') = seen_after ((touches c).becomes a v) cs as'
 
+  -- what a call on the number n answers and leaves of it
+  says : (n : ℕ) (c : C.Call) (k : C.Kept) → Good C k → Finds C c k → C.named c ≡ n → C.answer c k ≡ (touches c).decides (C.frame k) (C.see n k)
+  says n c k g f e = rw (← e) ((touches c).answers k g f)
+
+  leaves : (n : ℕ) (c : C.Call) (k : C.Kept) → Good C k → C.named c ≡ n → C.see n (C.next c k) ≡ (touches c).becomes (C.answer c k) (C.see n k)
+  leaves n c k g e = rw (← e) ((touches c).here k g)
+
+  -- a call on another number leaves it
+  passes : (n : ℕ) (c : C.Call) (k : C.Kept) → Good C k → (C.named c ≡ n → ⊥) → C.see n (C.next c k) ≡ C.see n k
+  passes n c k g ne = (touches c).others k g n (λ y. ne (sym y))
+
+  answers_mine : (n : ℕ) (c : C.Call) (k : C.Kept) (g : Good C k) → Finds C c k → C.named c ≡ n → (as' : List C.Answer) (cs : List C.Call)
+      → as' ≡ answers_alone (C.frame (C.next c k)) (C.see n (C.next c k)) cs → C.answer c k ∷ as' ≡ answers_alone (C.frame k) (C.see n k) (c ∷ cs)
+  unfolding answers_alone
+  answers_mine n c k g f e as' cs h = rw (h, (touches c).same k g, leaves n c k g e, says n c k g f e)
+
+  answers_other : (n : ℕ) (c : C.Call) (k : C.Kept) (g : Good C k) → (C.named c ≡ n → ⊥) → (as' : List C.Answer) (cs : List C.Call)
+      → as' ≡ answers_alone (C.frame (C.next c k)) (C.see n (C.next c k)) cs → as' ≡ answers_alone (C.frame k) (C.see n k) cs
+  answers_other n c k g ne as' cs h = rw (h, (touches c).same k g, passes n c k g ne)
+
   pub answers-alone : (n : ℕ) (cs : List C.Call) (k : C.Kept) → Good C k → Roomy C k cs → answers_to C n k cs ≡ answers_alone (C.frame k) (C.see n k) (own C n cs)
   unfolding answers_to own answers_alone
   answers-alone n [] k g r = refl
   answers-alone n (c ∷ cs) k g r =
       let ih = answers-alone n cs (C.next c k) ((touches c).good k g) r.1 in
-      let s = (touches c).same k g in
       split (eqb (C.named c) n)
-      (λ t.
-      let e = eqb-true (C.named c) n t in
-      rw (t, ih, s, ← e, (touches c).here k g, (touches c).answers k g r.0))
-      (λ t. rw (t, ih, s, (touches c).others k g n (λ y. eqb-false (C.named c) n t (sym y))))
+      (λ t. rw t (answers_mine n c k g r.0 (eqb-true (C.named c) n t) _ (own C n cs) ih))
+      (λ t. rw t (answers_other n c k g (eqb-false (C.named c) n t) _ (own C n cs) ih))
+
+  seen_mine : (n : ℕ) (c : C.Call) (k : C.Kept) (g : Good C k) → Finds C c k → C.named c ≡ n → (v : C.Seen) (cs : List C.Call)
+      → v ≡ seen_alone (C.frame (C.next c k)) (C.see n (C.next c k)) cs → v ≡ seen_alone (C.frame k) (C.see n k) (c ∷ cs)
+  unfolding seen_alone
+  seen_mine n c k g f e v cs h = rw (h, (touches c).same k g, leaves n c k g e, says n c k g f e)
+
+  seen_other : (n : ℕ) (c : C.Call) (k : C.Kept) (g : Good C k) → (C.named c ≡ n → ⊥) → (v : C.Seen) (cs : List C.Call)
+      → v ≡ seen_alone (C.frame (C.next c k)) (C.see n (C.next c k)) cs → v ≡ seen_alone (C.frame k) (C.see n k) cs
+  seen_other n c k g ne v cs h = rw (h, (touches c).same k g, passes n c k g ne)
 
   pub seen-alone : (n : ℕ) (cs : List C.Call) (k : C.Kept) → Good C k → Roomy C k cs → C.see n (run C k cs) ≡ seen_alone (C.frame k) (C.see n k) (own C n cs)
   unfolding run own seen_alone
   seen-alone n [] k g r = refl
   seen-alone n (c ∷ cs) k g r =
       let ih = seen-alone n cs (C.next c k) ((touches c).good k g) r.1 in
-      let s = (touches c).same k g in
       split (eqb (C.named c) n)
-      (λ t.
-      let e = eqb-true (C.named c) n t in
-      rw (t, ih, s, ← e, (touches c).here k g, (touches c).answers k g r.0))
-      (λ t. rw (t, ih, s, (touches c).others k g n (λ y. eqb-false (C.named c) n t (sym y))))
+      (λ t. rw t (seen_mine n c k g r.0 (eqb-true (C.named c) n t) _ (own C n cs) ih))
+      (λ t. rw t (seen_other n c k g (eqb-false (C.named c) n t) _ (own C n cs) ih))
+
+  after_mine : (n : ℕ) (c : C.Call) (k : C.Kept) (g : Good C k) → C.named c ≡ n → (v : C.Seen) (cs : List C.Call) (as' : List C.Answer)
+      → v ≡ seen_after (C.see n (C.next c k)) cs as' → v ≡ seen_after (C.see n k) (c ∷ cs) (C.answer c k ∷ as')
+  unfolding seen_after
+  after_mine n c k g e v cs as' h = rw (h, leaves n c k g e)
+
+  after_other : (n : ℕ) (c : C.Call) (k : C.Kept) (g : Good C k) → (C.named c ≡ n → ⊥) → (v : C.Seen) (cs : List C.Call) (as' : List C.Answer)
+      → v ≡ seen_after (C.see n (C.next c k)) cs as' → v ≡ seen_after (C.see n k) cs as'
+  after_other n c k g ne v cs as' h = rw (h, passes n c k g ne)
 
   -- room or not: what is seen of a number is what its own calls and their answers make of it
   pub seen-after : (n : ℕ) (cs : List C.Call) (k : C.Kept) → Good C k → C.see n (run C k cs) ≡ seen_after (C.see n k) (own C n cs) (answers_to C n k cs)
@@ -58,10 +90,8 @@ module _ (C : Calls) (touches : (c : C.Call) → Touches C c) where
   seen-after n (c ∷ cs) k g =
       let ih = seen-after n cs (C.next c k) ((touches c).good k g) in
       split (eqb (C.named c) n)
-      (λ t.
-      let e = eqb-true (C.named c) n t in
-      rw (t, ih, ← e, (touches c).here k g))
-      (λ t. rw (t, ih, (touches c).others k g n (λ y. eqb-false (C.named c) n t (sym y))))
+      (λ t. rw t (after_mine n c k g (eqb-true (C.named c) n t) _ (own C n cs) (answers_to C n (C.next c k) cs) ih))
+      (λ t. rw t (after_other n c k g (eqb-false (C.named c) n t) _ (own C n cs) (answers_to C n (C.next c k) cs) ih))
 
   same-frame : (cs : List C.Call) (k : C.Kept) → Good C k → C.frame (run C k cs) ≡ C.frame k
   unfolding run

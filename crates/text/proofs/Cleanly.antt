@@ -106,12 +106,12 @@ module _ (d : List ℕ) (ok : accepts d ≡ true) where
   unfolding AllClean tokens_of Sound Fits
   tokens-clean none g row i seen h k p f = tt
   tokens-clean (scalar n x rest) g row i seen h k p f =
-      let c = inside d ok g row i n h k f.0.is_Known in
+      let c = inside d ok g row i n h k f.0.is_known in
       clean_append (comma_token i) _ (comma-clean i)
       (clean_append (label_tokens d row n) _ (label-clean row n c)
       (token-clean (child d row n) x c f.0.does_fit f.1 p.0, tokens-clean rest g row (suc i) (n ∷ seen) h k p.1 f.2))
   tokens-clean (inner n a kids rest) g row i seen h k p f =
-      let c = inside d ok g row i n h k f.0.is_Known in
+      let c = inside d ok g row i n h k f.0.is_known in
       let j = tokens_of d kids (child d row n) 0 in
       clean_append (comma_token i) _ (comma-clean i)
       (clean_append (label_tokens d row n) _ (label-clean row n c) (

@@ -121,7 +121,7 @@ module _ (d s : List ℕ) (ok : accepts d ≡ true) where
   unfolding lead Sound Fits
   begun none g row i seen r z h k p f = absurd z
   begun (scalar n x rest) g row i seen r z h k p f =
-      let c = inside d ok g row i n h k f.0.is_Known in
+      let c = inside d ok g row i n h k f.0.is_known in
       let ks = token_of d (child d row n) x ∷ tokens_of d rest row (suc i) in
       let w = a_sign (closes g) ∷ r in
       rw (append_assoc (label_tokens d row n) ks w)
@@ -134,7 +134,7 @@ module _ (d s : List ℕ) (ok : accepts d ≡ true) where
         stays = no_sign d (child d row n) x (closes g);
       }))
   begun (inner n a kids rest) g row i seen r z h k p f =
-      let c = inside d ok g row i n h k f.0.is_Known in
+      let c = inside d ok g row i n h k f.0.is_known in
       let js = tokens_of d kids (child d row n) 0 ++ (a_sign (closes a) ∷ []) in
       let ks = (a_sign (opens a) ∷ js) ++ tokens_of d rest row (suc i) in
       let w = a_sign (closes g) ∷ r in
@@ -193,11 +193,11 @@ module _ (d s : List ℕ) (ok : accepts d ≡ true) where
       absurd (omega (arith, some_left g (lead d (scalar n x rest) row i ++ (a_sign (closes g) ∷ r)) p (begun (scalar n x rest) g row i seen r tt h e v f) y))
   run_complete (scalar n x rest) room g row (suc k) i seen p r z h e v f m b l y =
       let w = a_sign (closes g) ∷ r in
-      let c = inside d ok g row i n h e f.0.is_Known in
+      let c = inside d ok g row i n h e f.0.is_known in
       let t = token_of d (child d row n) x in
       let y' : Spells (label_tokens d row n ++ (t ∷ (tokens_of d rest row (suc i) ++ w))) (drop p s) = rw (append_assoc (label_tokens d row n) (t ∷ tokens_of d rest row (suc i)) w) at y in
       goes_on (member_at d s (inside_of d s room)) rest g row k i seen p (plain n x) r
-      (member_complete d s ok (inside_of d s room) g row i n seen p (plain n x) (tokens_of d rest row (suc i) ++ w) (t ∷ (tokens_of d rest row (suc i) ++ w)) h e f.0.is_Known f.0.is_fresh b y'
+      (member_complete d s ok (inside_of d s room) g row i n seen p (plain n x) (tokens_of d rest row (suc i) ++ w) (t ∷ (tokens_of d rest row (suc i) ++ w)) h e f.0.is_known f.0.is_fresh b y'
       λ q a u. scalar-value d s ok (inside_of d s room) n (child d row n) q x (tokens_of d rest row (suc i) ++ w) c f.0.does_fit f.1 v.0 (signed_rest d rest g row i r) u)
       (λ o q a u y. run_complete rest room g row k (suc i) (n ∷ seen) q r o h e v.1 f.2 m u (omega arith) y)
   run_complete (inner n a kids rest) room g row zero i seen p r z h e v f m b l y =
@@ -205,13 +205,13 @@ module _ (d s : List ℕ) (ok : accepts d ≡ true) where
   run_complete (inner n a kids rest) zero g row (suc k) i seen p r z h e v f m b l y = absurd (omega arith)
   run_complete (inner n a kids rest) (suc room) g row (suc k) i seen p r z h e v f m b l y =
       let w = a_sign (closes g) ∷ r in
-      let c = inside d ok g row i n h e f.0.is_Known in
+      let c = inside d ok g row i n h e f.0.is_known in
       let ck = group-kind d (child d row n) a f.0.does_fit in
       let R = tokens_of d rest row (suc i) ++ w in
       let K = tokens_of d kids (child d row n) 0 ++ (a_sign (closes a) ∷ R) in
       let y' : Spells (label_tokens d row n ++ (a_sign (opens a) ∷ K)) (drop p s) = rw (spread (label_tokens d row n) (tokens_of d kids (child d row n) 0) (tokens_of d rest row (suc i)) w (a_sign (opens a)) (a_sign (closes a))) at y in
       goes_on (member_at d s (inside_of d s (suc room))) rest g row k i seen p (group n a kids) r
-      (member_complete d s ok (inside_of d s (suc room)) g row i n seen p (group n a kids) R (a_sign (opens a) ∷ K) h e f.0.is_Known f.0.is_fresh b y'
+      (member_complete d s ok (inside_of d s (suc room)) g row i n seen p (group n a kids) R (a_sign (opens a) ∷ K) h e f.0.is_known f.0.is_fresh b y'
       λ q o u. group-value d s ok (inside_of d s (suc room)) n (child d row n) q a kids R K f.0.does_fit u
       λ at q o u y. inside_complete room kids a (child d row n) at q R c ck v.0 f.1 u y
       λ z q o u y. run_complete kids room a (child d row n) (length s) 0 [] q R z c ck v.0 f.1 (omega arith) u (omega arith) y)

@@ -83,7 +83,7 @@ module _ (d : List ℕ) (ok : accepts d ≡ true) where
   unfolding Writes shortest Sound Fits
   writes-of none g row i seen h k p f l = refl
   writes-of (scalar n x rest) g row i seen h k p f l =
-      let c = inside d ok g row i n h k f.0.is_Known in
+      let c = inside d ok g row i n h k f.0.is_known in
       let v = value_bytes x in
       let z = tuple_long_lem n (format_of x) v in
       let j = length-append (tuple_of n (format_of x) v) (shortest rest) in
@@ -91,11 +91,11 @@ module _ (d : List ℕ) (ok : accepts d ≡ true) where
         front = tuple_of n (format_of x) v;
         back = shortest rest;
         whole = refl;
-        here = tuple_written n (format_of x) (Holds x) v (number-few g row i n h k f.0.is_Known (omega arith)) (omega (arith, (scalar-base x).high)) (omega (arith, z, j)) (value_written (child d row n) x c f.0.does_fit f.1 p.0);
+        here = tuple_written n (format_of x) (Holds x) v (number-few g row i n h k f.0.is_known (omega arith)) (omega (arith, (scalar-base x).high)) (omega (arith, z, j)) (value_written (child d row n) x c f.0.does_fit f.1 p.0);
         rest = writes-of rest g row (suc i) (n ∷ seen) h k p.1 f.2 (omega (arith, z, j));
       }
   writes-of (inner n a kids rest) g row i seen h k p f l =
-      let c = inside d ok g row i n h k f.0.is_Known in
+      let c = inside d ok g row i n h k f.0.is_known in
       let v = number_of (size kids) ++ shortest kids in
       let z = tuple_long_lem n (shape_format a) v in
       let j = length-append (tuple_of n (shape_format a) v) (shortest rest) in
@@ -105,7 +105,7 @@ module _ (d : List ℕ) (ok : accepts d ≡ true) where
         back = shortest rest;
         whole = refl;
         here =
-            tuple_written n (shape_format a) (Cut (Number (size kids)) (Writes kids)) v (number-few g row i n h k f.0.is_Known (omega arith)) (omega (arith, shape-low a)) (omega (arith, z, j))
+            tuple_written n (shape_format a) (Cut (Number (size kids)) (Writes kids)) v (number-few g row i n h k f.0.is_known (omega arith)) (omega (arith, shape-low a)) (omega (arith, z, j))
             (record {
               front = number_of (size kids);
               back = shortest kids;

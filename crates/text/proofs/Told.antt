@@ -98,28 +98,28 @@ module _ (d : List ℕ) (ok : accepts d ≡ true) where
   runs (scalar n v s) none g row i seen x y l k p q f h e = ended-scalar d n v s g row i y (closes g ∷ x) k p.0 (sym e)
   runs (scalar n v s) (scalar m w r) g row i seen x y l k p q f h e =
       let c = append_cancel_left (comma_at i) _ _ (simp append_assoc at e) in
-      let z = labels d ok g row i n m _ _ l k f.0.is_Known h.0.is_Known c in
+      let z = labels d ok g row i n m _ _ l k f.0.is_known h.0.is_known c in
       let b : word d (child d row n) v ++ (text_of d s row (suc i) ++ (closes g ∷ x)) ≡ word d (child d row n) w ++ (text_of d r row (suc i) ++ (closes g ∷ y)) = rw (← z.0) at z.1 in
-      let o = words d ok (child d row n) (inside g row i n l k f.0.is_Known) v w _ _ f.0.does_fit (rw (← z.0) at h.0.does_fit) f.1 (rw (← z.0) at h.1) p.0 q.0 (stop_run d s g row i x) (stop_run d r g row i y) b in
+      let o = words d ok (child d row n) (inside g row i n l k f.0.is_known) v w _ _ f.0.does_fit (rw (← z.0) at h.0.does_fit) f.1 (rw (← z.0) at h.1) p.0 q.0 (stop_run d s g row i x) (stop_run d r g row i y) b in
       let a = runs s r g row (suc i) (n ∷ seen) x y l k p.1 q.1 f.2 (rw (← z.0) at h.2) o.1 in
       (rw (z.0, o.0, a.0), a.1)
   runs (scalar n v s) (inner m b j r) g row i seen x y l k p q f h e =
       let c = append_cancel_left (comma_at i) _ _ (simp append_assoc at e) in
-      let z = labels d ok g row i n m _ _ l k f.0.is_Known h.0.is_Known c in
+      let z = labels d ok g row i n m _ _ l k f.0.is_known h.0.is_known c in
       absurd (no_bracket d (child d row n) v b _ _ p.0 z.1)
   runs (inner n a j s) none g row i seen x y l k p q f h e = ended-inner d n a j s g row i y (closes g ∷ x) k (sym e)
   runs (inner n a j s) (scalar m w r) g row i seen x y l k p q f h e =
       let c = append_cancel_left (comma_at i) _ _ (simp append_assoc at e) in
-      let z = labels d ok g row i n m _ _ l k f.0.is_Known h.0.is_Known c in
+      let z = labels d ok g row i n m _ _ l k f.0.is_known h.0.is_known c in
       absurd (no_bracket d (child d row m) w a _ _ q.0 (sym z.1))
   runs (inner n a j s) (inner m b t r) g row i seen x y l k p q f h e =
       let c = append_cancel_left (comma_at i) _ _ (simp append_assoc at e) in
-      let z = labels d ok g row i n m _ _ l k f.0.is_Known h.0.is_Known c in
+      let z = labels d ok g row i n m _ _ l k f.0.is_known h.0.is_known c in
       let ka = group-kind d (child d row n) a f.0.does_fit in
       let kb = group-kind d (child d row n) b (rw (← z.0) at h.0.does_fit) in
       let o = shape_unique a b (sym ka ∙ kb) in
       let w : text_of d j (child d row n) 0 ++ (closes a ∷ (text_of d s row (suc i) ++ (closes g ∷ x))) ≡ text_of d t (child d row n) 0 ++ (closes a ∷ (text_of d r row (suc i) ++ (closes g ∷ y))) = tail-eq_of_cons-eq (rw (← z.0, ← o) at z.1) in
-      let kids = runs j t a (child d row n) 0 [] _ _ (inside g row i n l k f.0.is_Known) ka p.0 q.0 f.1 (rw (← z.0) at h.1) w in
+      let kids = runs j t a (child d row n) 0 [] _ _ (inside g row i n l k f.0.is_known) ka p.0 q.0 f.1 (rw (← z.0) at h.1) w in
       let after = runs s r g row (suc i) (n ∷ seen) x y l k p.1 q.1 f.2 (rw (← z.0) at h.2) kids.1 in
       (rw (z.0, o, kids.0, after.0), after.1)
 

@@ -16,7 +16,7 @@ use writer_tokens::tokens::skip;
 // "then for a name 6, 7", and then its colon. The child is put on the roll.
 fn fresh_name_at(d: &[u8], s: &[u8], row: usize, bits: &mut [u8; ROLL_BYTES], p: usize) -> Key
     requires holder { Holder d.now s.now row Set p }
-    requires bits_len { length bits.old ≡ roll_bytes }
+    requires roll { length bits.old ≡ roll_bytes }
     ensures { FreshMet d.now s.now Set row 0 bits.old p result bits.new }
 {
     let at = skip(s, p);
@@ -52,7 +52,7 @@ pub fn fresh_key_at(
     p: usize,
 ) -> Key
     requires holder { Holder d.now s.now row g p }
-    requires i_le_p { (i ≤ p) × (length bits.old ≡ roll_bytes) }
+    requires index_in { (i ≤ p) × (length bits.old ≡ roll_bytes) }
     ensures { FreshMet d.now s.now g row i bits.old p result bits.new }
 {
     match g {

@@ -1,4 +1,6 @@
 // The first pass of the writer: judges a text, measures its shortest payload, and keeps the sizes that the second pass needs. What it says stands in crates/text/specs/Writing.
+#![tactic(auto)]
+
 pub mod keys;
 pub mod measuring;
 pub mod roots;

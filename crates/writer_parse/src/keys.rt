@@ -74,7 +74,7 @@ fn named_at(d: &[u8], s: &[u8], row: usize, p: usize) -> Key
 // The i-th member of a group.
 pub fn key_at(d: &[u8], s: &[u8], g: Shape, row: usize, i: usize, p: usize) -> Key
     requires holder { Holder d.now s.now row g p }
-    requires i_le_p { i ≤ p }
+    requires index_in { i ≤ p }
     ensures { KeyMet d.now s.now row p (key_at d.now s.now g row i [] p) result }
 {
     match g {

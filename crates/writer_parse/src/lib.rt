@@ -1,4 +1,6 @@
 // What stands in a text where a value, a name or a sign is due, judged in the paper's order. What it means stands in crates/text/specs and in specs/.
+#![tactic(auto)]
+
 pub mod groups;
 pub mod heads;
 pub mod keys;

@@ -1,4 +1,6 @@
 // The second pass of the writer: writes what the first has taken, as the shortest BEJ.
+#![tactic(auto)]
+
 pub mod rendering;
 pub mod tuples;
 

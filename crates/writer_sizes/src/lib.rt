@@ -1,4 +1,6 @@
 // How many bytes numbers, values and tuples have in a shortest payload. What the first pass keeps for the second stands in specs/Plan.
+#![tactic(auto)]
+
 ghost use Rattle.std.specs.Prelude.{◌≡◌, ◌<◌, ◌^◌, length};
 ghost use Rattle.numbers.specs.Number.{number_of};
 ghost use Rattle.writer_parse.specs.Leaves.{Proper, bytes_for};

@@ -1,4 +1,6 @@
 // The tokens of a text, each at its place. What they mean stands in crates/text/specs and in specs/.
+#![tactic(auto)]
+
 pub mod bytes;
 pub mod numerals;
 pub mod tokens;

@@ -2,7 +2,6 @@
 -- Assumes nothing.
 use Rattle.std.proofs.Common.{rules}
 use Rattle.numbers.proofs.Texts.{digit_rules}
-use Prim.Native.Nat.{ℕ, ◌<◌}
 use Rattle.numbers.proofs.+put_digits.Goals as goal
 
 pub put-requires : goal.put-requires

@@ -1,7 +1,5 @@
 -- `numbers::put_digits`, which calls itself on a tenth of its number, meets its contract.
 -- Assumes nothing.
-use Rattle.numbers.proofs.Texts.{digit_rules}
-use Prim.Native.Nat.{ℕ, ◌<◌}
 use Rattle.numbers.proofs.+put_digits.Given as goal
 
 abbrev pub decreases-put_digits : goal.decreases-put_digits

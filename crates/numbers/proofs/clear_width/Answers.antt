@@ -1,7 +1,7 @@
 -- `numbers::clear_width` meets its contract. The loop keeps that the bytes passed and those of what is left are all.
 -- Assumes nothing.
 use Rattle.std.proofs.Common.{rules}
-use Rattle.numbers.proofs.Putting.{Clearing, clear_rules}
+use Rattle.numbers.proofs.Putting.{clear_rules}
 use Rattle.numbers.proofs.clear_width.Goals as goal
 
 pub overflow_add-w : goal.overflow_add-w

@@ -1,7 +1,7 @@
 -- `numbers::digits_length` meets its contract. The loop keeps that the digits passed and those of what is left are all.
 -- Assumes nothing.
 use Rattle.std.proofs.Common.{rules}
-use Rattle.numbers.proofs.Texts.{Counting, count_rules}
+use Rattle.numbers.proofs.Texts.{count_rules}
 use Rattle.numbers.proofs.digits_length.Goals as goal
 
 pub overflow_add-k : goal.overflow_add-k

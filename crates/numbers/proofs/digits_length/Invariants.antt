@@ -1,6 +1,6 @@
 -- `numbers::digits_length` meets its contract. The loop keeps that the digits passed and those of what is left are all.
 -- Assumes nothing.
-use Rattle.numbers.proofs.Texts.{Counting, count_rules}
+use Rattle.numbers.proofs.Texts.{Counting}
 use Rattle.numbers.proofs.digits_length.Given as goal
 
 abbrev pub invariant-loop-x : goal.invariant-loop-x

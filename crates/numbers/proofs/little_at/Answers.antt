@@ -1,7 +1,7 @@
 -- `numbers::little_at` meets its contract. The loop keeps that what is summed is what the bytes from `i` on say.
 -- Assumes nothing.
 use Rattle.std.proofs.Common.{rules}
-use Rattle.numbers.proofs.Reading.{Summing, sum_rules}
+use Rattle.numbers.proofs.Reading.{sum_rules}
 use Rattle.numbers.proofs.little_at.Goals as goal
 
 pub loop-i-init : goal.loop-i-init

@@ -1,6 +1,6 @@
 -- `numbers::little_at` meets its contract. The loop keeps that what is summed is what the bytes from `i` on say.
 -- Assumes nothing.
-use Rattle.numbers.proofs.Reading.{Summing, sum_rules}
+use Rattle.numbers.proofs.Reading.{Summing}
 use Rattle.numbers.proofs.little_at.Given as goal
 
 abbrev pub invariant-loop-i : goal.invariant-loop-i

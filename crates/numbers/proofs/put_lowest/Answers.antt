@@ -1,8 +1,7 @@
 -- `numbers::put_lowest` meets its contract. The loop keeps that what is not yet written are the lowest bytes of what is left.
 -- Assumes nothing.
 use Rattle.std.proofs.Common.{rules}
-use Prim.Native.Nat.{◌-◌}
-use Rattle.numbers.proofs.Putting.{Lowering, low_rules}
+use Rattle.numbers.proofs.Putting.{low_rules}
 use Rattle.numbers.proofs.put_lowest.Goals as goal
 
 pub loop-i-init : goal.loop-i-init

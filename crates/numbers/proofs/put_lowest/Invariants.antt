@@ -1,7 +1,7 @@
 -- `numbers::put_lowest` meets its contract. The loop keeps that what is not yet written are the lowest bytes of what is left.
 -- Assumes nothing.
 use Prim.Native.Nat.{◌-◌}
-use Rattle.numbers.proofs.Putting.{Lowering, low_rules}
+use Rattle.numbers.proofs.Putting.{Lowering}
 use Rattle.numbers.proofs.put_lowest.Given as goal
 
 abbrev pub invariant-loop-i : goal.invariant-loop-i

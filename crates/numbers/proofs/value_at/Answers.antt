@@ -1,8 +1,7 @@
 -- `numbers::value_at` meets its contract. The loop keeps that the digits passed and those left say the whole, up to the cap.
 -- Assumes nothing.
 use Rattle.std.proofs.Common.{rules}
-use Prim.Native.Nat.{◌-◌}
-use Rattle.numbers.proofs.Texts.{Valuing, value_rules}
+use Rattle.numbers.proofs.Texts.{value_rules}
 use Rattle.numbers.proofs.value_at.Goals as goal
 
 pub next_value-n-requires : goal.next_value-n-requires

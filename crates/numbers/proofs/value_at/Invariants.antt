@@ -1,7 +1,7 @@
 -- `numbers::value_at` meets its contract. The loop keeps that the digits passed and those left say the whole, up to the cap.
 -- Assumes nothing.
 use Prim.Native.Nat.{◌-◌}
-use Rattle.numbers.proofs.Texts.{Valuing, value_rules}
+use Rattle.numbers.proofs.Texts.{Valuing}
 use Rattle.numbers.proofs.value_at.Given as goal
 
 abbrev pub invariant-loop-i : goal.invariant-loop-i

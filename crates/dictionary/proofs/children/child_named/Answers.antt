@@ -2,9 +2,7 @@
 -- Where a length differs the goal doesn't show the name that was read, so its lemma is given by hand, its premises by `search`.
 -- Assumes nothing.
 use Rattle.std.proofs.Common.{rules}
-use Prim.Native.Nat.{◌-◌}
-use lib.ListN.{length}
-use Rattle.dictionary.proofs.Asking.{Looking, Comparing, looking, look_other, own-long}
+use Rattle.dictionary.proofs.Asking.{looking, look_other, own-long}
 use Rattle.dictionary.proofs.children.child_named.Goals as goal
 
 pub first_child-first-requires : goal.first_child-first-requires

@@ -3,7 +3,7 @@
 -- Assumes nothing.
 use Prim.Native.Nat.{◌-◌}
 use lib.ListN.{length}
-use Rattle.dictionary.proofs.Asking.{Looking, Comparing, looking, look_other, own-long}
+use Rattle.dictionary.proofs.Asking.{Looking, Comparing}
 use Rattle.dictionary.proofs.children.child_named.Given as goal
 
 abbrev pub invariant-loop-i : goal.invariant-loop-i

@@ -1,0 +1,11 @@
+-- `reader_render::piece::put_label` meets its contract.
+-- Assumes nothing.
+use Rattle.std.proofs.Common.{rules}
+use Rattle.reader_render.proofs.Copying.{label_rules}
+use Rattle.reader_render.proofs.piece.put_label.Goals as goal
+
+pub returns-in-Array : goal.returns-in-Array
+returns-in-Array c = search (label_rules, rules)
+
+pub returns-in-Set : goal.returns-in-Set
+returns-in-Set c = search (label_rules, rules)
