@@ -98,7 +98,7 @@ module _ (r : Record) where
     declares = suited-declares r.kind r.declared u.suited;
     from_1 = leb-true needs_input r.state (and_left (leb needs_input r.state) (leb r.state abandoned) u.states);
     to_7 = leb-true r.state abandoned (and_right (leb needs_input r.state) (leb r.state abandoned) u.states);
-    in_1 = receives_1 u.receives;
+    in_1 = λ e. omega (arith, receives_1 u.receives e);
     in_2_to_6 = λ l h. receives_else u.receives (λ e. omega arith) (λ e. omega arith);
     in_7 = receives_7 u.receives;
     due_in_4 = owes_4 u.owes;
