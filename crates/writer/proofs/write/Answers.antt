@@ -1,20 +1,19 @@
 -- `writer::write` meets its contract: dictionary and length in that order, then the root.
 -- Assumes nothing.
-use Rattle.std.proofs.Common.{rules}
 use Rattle.writer.proofs.Entering.{entries}
 use Rattle.writer.proofs.write.Goals as goal
 
 pub returns-then-not-accepts : goal.returns-then-not-accepts
-returns-then-not-accepts c = search (entries, rules)
+returns-then-not-accepts c = search entries
 
 pub returns-then-text-lt-TEXT_LEAST : goal.returns-then-text-lt-TEXT_LEAST
-returns-then-text-lt-TEXT_LEAST c = search (entries, rules)
+returns-then-text-lt-TEXT_LEAST c = search entries
 
 pub returns-then-text-gt-TEXT_MOST : goal.returns-then-text-gt-TEXT_MOST
-returns-then-text-gt-TEXT_MOST c = search (entries, rules)
+returns-then-text-gt-TEXT_MOST c = search entries
 
 pub written-requires : goal.written-requires
-written-requires c = search (entries, rules)
+written-requires c = search entries
 
 pub returns : goal.returns
-returns c = search (entries, rules)
+returns c = search entries
