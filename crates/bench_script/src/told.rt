@@ -1,4 +1,5 @@
-// What a desk's script is told: status, list, records and received bytes, written as docs/BENCH.md says. An error is the writer's own, and the buffer keeps its length.
+// What a desk's script is told: status, list, records and received bytes, written as docs/BENCH.md says. An error is the writer's own, and the
+// buffer keeps its length.
 ghost use Rattle.std.specs.Prelude.{◌≡◌, ◌≤◌, length, IfOk, OnErr};
 ghost use Rattle.paper.specs.Limits.{desk_most};
 

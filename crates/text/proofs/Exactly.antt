@@ -1,7 +1,7 @@
 -- The four theorems of the writer: it writes exactly the texts that say something, what it writes reads back, nothing shorter does, and what the reader reads can be written.
 -- Assumes nothing.
 --   writes-sound, writes_complete, writes_exactly   a payload is given exactly when the text says one, within the room and the limit
---   read-back         what was written reads back as the text less its spaces
+--   read_back         what was written reads back as the text less its spaces
 --   shortest-written  no payload that means that text is shorter, and each has as many tuples
 --   other_way_round   a text that the reader gave is written again, in no more bytes, and reads the same
 use mathlib.Core.Path.{◌≡◌, refl, sym, ap, ◌∙◌}
