@@ -3,6 +3,9 @@
 
 pub mod bytes;
 
+ghost use Rattle.std.specs.Prelude.{◌≡◌};
+ghost use Rattle.paper.specs.Refusal.{number_of};
+
 pub const DICTIONARY_LEAST: usize = 22;
 
 pub const DICTIONARY_MOST: usize = 65535;
@@ -84,6 +87,57 @@ pub const AMOUNT_WRONG: u8 = 27;
 pub struct Answer {
     pub number: u8,
     pub place: usize,
+    pub count: usize,
+    pub length: usize,
+}
+
+// "A refusal is a number and a place": its number, by name.
+#[derive(Clone, Copy, PartialEq, Eq)]
+pub enum Refusal {
+    DictionaryWrong = 1,
+    LengthWrong = 2,
+    HeaderDiffers = 3,
+    PastEnd = 4,
+    WidthWrong = 5,
+    NotKnown = 6,
+    GivenTwice = 7,
+    NotInBase = 8,
+    Misfit = 9,
+    ValueWrong = 10,
+    TooDeep = 11,
+    BudgetSpent = 12,
+    AfterRoot = 13,
+    NoRoom = 14,
+    BadText = 15,
+    NotSound = 20,
+    NumberZero = 21,
+    InUse = 22,
+    AllTaken = 23,
+    NoSuchNumber = 24,
+    NotAllowed = 25,
+    OpenWrong = 26,
+    AmountWrong = 27,
+}
+
+impl Refusal {
+    // What callers in C are told.
+    pub fn number(self) -> u8
+        ensures { result ≡ number_of self }
+    {
+        self as u8
+    }
+}
+
+// A refusal, and where in the payload or the text it is.
+#[derive(Clone, Copy, PartialEq, Eq)]
+pub struct Refused {
+    pub refusal: Refusal,
+    pub place: usize,
+}
+
+// What the reader or the writer has done: how many tuples, and how many bytes.
+#[derive(Clone, Copy, PartialEq, Eq)]
+pub struct Done {
     pub count: usize,
     pub length: usize,
 }
