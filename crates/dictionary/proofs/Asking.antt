@@ -11,7 +11,7 @@ use borrow.Author.Count.{below_more}
 use Rattle.paper.specs.Tests.{same}
 use Rattle.paper.proofs.Tests.{same_eq, same_ne}
 use Rattle.numbers.proofs.Places.{slice-take}
-use Rattle.dictionary.specs.declared.Child.TheVariants.{At, Nothing}
+use Rattle.std.specs.Prelude.{Some, None}
 use Rattle.dictionary.specs.Rows.{row_bytes, row_at, entries, first_child, child_count, name_length, name_offset, name}
 use Rattle.dictionary.specs.Accepts.{accepts}
 use Rattle.dictionary.specs.Children.{seek, has_name, child_numbered, child_named}
@@ -55,26 +55,20 @@ module _ (d : List ℕ) (r : ℕ) (w : Row d r) where
   own_row = row_inside d w.accepted r w.inside
 
   module _ (k : ℕ) (hk : Field (name_length d r) 256 k) where
-    one_less : length (name d r) ≡ k - 1
-    one_less = let x = accepted-name d w.accepted r w.inside in omega (arith, x.long, hk.same)
+    pub one_less : (n : ℕ) → n ≡ k - 1 → NameMet d r n
+    one_less n e = let x = accepted-name d w.accepted r w.inside in record { same = omega (arith, x.long, hk.same); few = omega (arith, hk.below) }
 
-    pub long-none : k ≡ 0 → NameMet d r 0
-    long-none e = record { same = omega (arith, one_less); few = omega arith }
-
-    pub long-some : (k ≡ 0 → ⊥) → NameMet d r (k - 1)
-    long-some e = record { same = sym one_less; few = omega (arith, hk.below) }
-
-pub ruleset measuring = (own_row, long-none, long-some)
+pub ruleset measuring = (own_row, one_less)
 
 -- a child by its number
 module _ (d : List ℕ) (ok : accepts d ≡ true) (r n : ℕ) (h : (r < entries d) × (parent d r ≡ true)) (k : ℕ) (hk : Field (child_count d r) 65536 k) where
   family : Family d r
   family = accepted_family d ok r h.0 h.1
 
-  pub numbered-here : n < k → (f : ℕ) → Field (first_child d r) 65536 f → At (f + n) ≡ child_numbered d r n
-  numbered-here l f hf = sym (number-known d r n family (rw hk.same at l) ∙ ap At (omega (arith, hf.same)))
+  pub numbered-here : n < k → (f : ℕ) → Field (first_child d r) 65536 f → Some (f + n) ≡ child_numbered d r n
+  numbered-here l f hf = sym (number-known d r n family (rw hk.same at l) ∙ ap Some (omega (arith, hf.same)))
 
-  pub numbered-past : k ≤ n → Nothing ≡ child_numbered d r n
+  pub numbered-past : k ≤ n → None ≡ child_numbered d r n
   numbered-past l = sym (number_unknown d r n family (rw hk.same at l))
 
 pub ruleset numbering = (row_inside, numbered-here, numbered-past)
@@ -102,7 +96,7 @@ module _ (d : List ℕ) (r : ℕ) (t : List ℕ) where
       record { rows = omega (arith, w.within, hf.same, hk.same); whole = rw (e, hf.same, hk.same) }
 
   module _ (end c : ℕ) (s : Looking d r t end c) where
-    pub look_none : end ≤ c → Nothing ≡ child_named d r t
+    pub look_none : end ≤ c → None ≡ child_named d r t
     look_none h = sym (s.whole ∙ seek-none (has_name d t) (end - c) c (omega arith))
 
     module _ (h : c < end) where
@@ -136,7 +130,7 @@ module _ (d : List ℕ) (r : ℕ) (t : List ℕ) where
     pub compare_fewer : end - (c + 1) < end - turn
     compare_fewer = omega (arith, s.here, s.still)
 
-    pub compare_done : length t ≤ i → At c ≡ child_named d r t
+    pub compare_done : length t ≤ i → Some c ≡ child_named d r t
     compare_done h =
         let e : own ≡ t = ext_get_or 0 own t s.long λ k g. s.alike k (omega (arith, s.long)) in
         let x : same (name d c) t ≡ true = same_eq (name d c) t (sym s.named ∙ e) in

@@ -1,5 +1,5 @@
 -- What the proofs of several functions use, and the laws that the crates above cite.
-pub mod Fields
+pub mod Forms
 pub mod Naming
 pub mod Seeking
 pub mod Finding

@@ -10,8 +10,7 @@ use lib.Seq.{slice, length-slice}
 use lib.Dec.{leb, eqb}
 use borrow.Author.Tests.{eqb-true, leb-true}
 use Rattle.paper.specs.Tests.{all}
-use Rattle.paper.proofs.Tests.{and_left, and_right, all-at}
-use Rattle.paper.proofs.Agreeing.{get_d_slice}
+use Rattle.paper.proofs.Tests.{and_left, and_right, all-at, get_d_slice}
 use Rattle.dictionary.specs.Rows.{name_length, name_offset, name}
 use Rattle.dictionary.specs.Accepts.{name_byte, name_byte_at, name_fine}
 use Rattle.dictionary.specs.Met.{Named}

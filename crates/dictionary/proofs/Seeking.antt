@@ -7,7 +7,7 @@ use native.Mathlib.Omega.{arith}
 use lib.Dec.{eqb}
 use borrow.Author.Tests.{eqb-true, eqb-false}
 use Rattle.paper.specs.Checks.{choose}
-use Rattle.dictionary.specs.declared.Child.TheVariants.{At, Nothing}
+use Rattle.std.specs.Prelude.{Some, None}
 use Rattle.dictionary.specs.Children.{seek}
 
 pub record Sought (P : ℕ → Bool) (k c x : ℕ) : Type 0 where
@@ -16,11 +16,11 @@ pub record Sought (P : ℕ → Bool) (k c x : ℕ) : Type 0 where
   pub under : x < c + k
 
 module _ (P : ℕ → Bool) where
-  pub seek-none : (k c : ℕ) → k ≡ 0 → seek k c P ≡ Nothing
+  pub seek-none : (k c : ℕ) → k ≡ 0 → seek k c P ≡ None
   unfolding seek
   seek-none k c e = rw e
 
-  pub seek-here : (k c : ℕ) → 0 < k → P c ≡ true → seek k c P ≡ At c
+  pub seek-here : (k c : ℕ) → 0 < k → P c ≡ true → seek k c P ≡ Some c
   unfolding seek
   seek-here k c h e = let f : k ≡ suc (k - 1) = omega arith in ap (λ (n : ℕ). seek n c P) f ∙ rw e
 
@@ -31,12 +31,12 @@ module _ (P : ℕ → Bool) where
       let g : suc c ≡ c + 1 = omega arith in
       ap (λ (n : ℕ). seek n c P) f ∙ rw (e, g)
 
-  pub seek_found : (k c x : ℕ) → seek k c P ≡ At x → Sought P k c x
+  pub seek_found : (k c x : ℕ) → seek k c P ≡ Some x → Sought P k c x
   unfolding seek
   seek_found zero c x e = absurd (let z : ◌≡◌ {A = ℕ} 0 1 = cc in omega arith)
   seek_found (suc k) c x e = go (P c) refl e (λ f. seek_found k (suc c) x f)
     where
-      go : (t : Bool) → P c ≡ t → seek (suc k) c P ≡ At x → (seek k (suc c) P ≡ At x → Sought P k (suc c) x) → Sought P (suc k) c x
+      go : (t : Bool) → P c ≡ t → seek (suc k) c P ≡ Some x → (seek k (suc c) P ≡ Some x → Sought P k (suc c) x) → Sought P (suc k) c x
       go true f e rec = let z : c ≡ x = cc (sym (seek-here (suc k) c (omega arith) f) ∙ e) in record { passes = rw z at f; from = omega arith; under = omega arith }
       go false f e rec =
           let g : suc k - 1 ≡ k = omega arith in
@@ -45,12 +45,12 @@ module _ (P : ℕ → Bool) where
           record { passes = y.passes; from = omega (arith, y.from); under = omega (arith, y.under) }
 
   -- where one passes, one is found
-  pub seek-some : (k c x : ℕ) → P x ≡ true → c ≤ x → x < c + k → (y : ℕ) × (seek k c P ≡ At y)
+  pub seek-some : (k c x : ℕ) → P x ≡ true → c ≤ x → x < c + k → (y : ℕ) × (seek k c P ≡ Some y)
   unfolding seek
   seek-some zero c x e h g = absurd (omega arith)
   seek-some (suc k) c x e h g = go (P c) refl (λ l. seek-some k (suc c) x e l (omega arith))
     where
-      go : (b : Bool) → P c ≡ b → (suc c ≤ x → (y : ℕ) × (seek k (suc c) P ≡ At y)) → (y : ℕ) × (choose b (λ _. At c) (λ _. seek k (suc c) P) ≡ At y)
+      go : (b : Bool) → P c ≡ b → (suc c ≤ x → (y : ℕ) × (seek k (suc c) P ≡ Some y)) → (y : ℕ) × (choose b (λ _. Some c) (λ _. seek k (suc c) P) ≡ Some y)
       go true f rec = (c, refl)
       go false f rec = rec (other (eqb c x) refl)
         where

@@ -6,7 +6,6 @@ ghost use Rattle.dictionary.specs.Children.{child_numbered, child_named};
 ghost use Rattle.dictionary.specs.Given.{Row, parent};
 ghost use Rattle.dictionary.specs.Met.{NameMet};
 
-use crate::Child;
 use crate::rows::{child_count, first_child, name_length, name_offset};
 
 // The row's name as a part of the lent bytes, without its closing 00; nothing where the row has none.
@@ -17,7 +16,7 @@ pub fn name_of<'a>(d: &'a [u8], row: usize) -> &'a [u8]
 {
     let long = name_length(d, row);
     if long == 0 {
-        return &d[..0];
+        return &[];
     }
     let at = name_offset(d, row);
     let end = at + long - 1;
@@ -29,28 +28,26 @@ pub fn name_long(d: &[u8], row: usize) -> usize
     requires { Row d.now row }
     ensures { NameMet d.now row result }
 {
-    let long = name_length(d, row);
-    if long == 0 {
-        return 0;
-    }
-    long - 1
+    name_length(d, row).saturating_sub(1)
 }
 
 // In an accepted dictionary a child stands at the position that its number says.
-pub fn child_numbered(d: &[u8], row: usize, number: usize) -> Child
+pub fn child_numbered(d: &[u8], row: usize, number: usize) -> Option<usize>
     requires accepted { accepts d.now ≡ true }
     requires row_in { (row < entries d.now) × (parent d.now row ≡ true) }
     ensures { result ≡ child_numbered d.now row number }
 {
     if number < child_count(d, row) {
-        return Child::At(first_child(d, row) + number);
+        Some(first_child(d, row) + number)
+    } else {
+        None
     }
-    Child::Nothing
 }
 
 // The first child with that name. A sibling whose name has another length is left before any byte is looked at; any other at
-// the first byte that differs.
-pub fn child_named(d: &[u8], row: usize, text: &[u8]) -> Child
+// the first byte that differs. The bytes are compared here and not by the slices' `==`: "When one byte differs it should go on
+// with the next sibling at once", and of its form "Outer loop over siblings, inner over name bytes".
+pub fn child_named(d: &[u8], row: usize, text: &[u8]) -> Option<usize>
     requires accepted { accepts d.now ≡ true }
     requires row_in { (row < entries d.now) × (parent d.now row ≡ true) }
     ensures { result ≡ child_named d.now row text.now }
@@ -67,7 +64,7 @@ pub fn child_named(d: &[u8], row: usize, text: &[u8]) -> Child
                 continue 'siblings;
             }
         }
-        return Child::At(child);
+        return Some(child);
     }
-    Child::Nothing
+    None
 }

@@ -4,10 +4,3 @@
 pub mod children;
 pub mod formats;
 pub mod rows;
-
-// A child of a row: its own row, or none.
-#[derive(Clone, Copy)]
-pub enum Child {
-    At(usize),
-    Nothing,
-}

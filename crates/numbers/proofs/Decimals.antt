@@ -7,6 +7,7 @@
 --   text_injective               two integers with one text are one
 --   text_cut                     a text that begins with an integer begins with one only
 --   text-bytes                   a text is bytes
+use Rattle.std.specs.Prelude.{Option, Some, None}
 use mathlib.Core.Path.{◌≡◌, refl, sym, ap, ◌∙◌}
 use mathlib.Core.List.{List, [], ◌∷◌, ◌++◌, append_assoc, append-nil, head-eq_of_cons-eq, tail-eq_of_cons-eq}
 use mathlib.Core.Bool.{Bool, true, false, ◌&&◌, ◌||◌, true≢false}
@@ -18,8 +19,6 @@ use borrow.Author.Tests.{ltb-true, ltb-false, lt-ltb, le-ltb, leb-true, le-leb, 
 use Rattle.paper.specs.Checks.{choose}
 use Rattle.numbers.specs.declared.Integer.{Integer}
 use Rattle.numbers.specs.declared.Integer.TheVariants.{Plus, Minus}
-use Rattle.numbers.specs.declared.Said.{Said}
-use Rattle.numbers.specs.declared.Said.TheVariants.{Wrong, Is}
 use Rattle.numbers.specs.Bytes.{Bytes}
 use Rattle.numbers.specs.Integer.{Held}
 use Rattle.numbers.specs.Decimal.{digits, decimal, decimal_of, digit, digits_only, plain, integral, value_from, below, integer_said}
@@ -217,10 +216,10 @@ said-minus c t h = rw (eq-eqb c 45 h)
 led-sign : (n c : ℕ) (t : List ℕ) → digits_only (c ∷ t) ≡ true → c ≡ 45 → ⊥
 led-sign n c t e h = omega (arith, digit_low c (only-head c t e))
 
-text-plus : (n : ℕ) (t : List ℕ) → n < 2 ^ 63 → Led n t → (integral t ≡ true) × (integer_said t ≡ Is (Plus n))
+text-plus : (n : ℕ) (t : List ℕ) → n < 2 ^ 63 → Led n t → (integral t ≡ true) × (integer_said t ≡ Some (Plus n))
 text-plus n t h r = go r.head r.tail r.whole
   where
-    go : (c : ℕ) (v : List ℕ) → t ≡ c ∷ v → (integral t ≡ true) × (integer_said t ≡ Is (Plus n))
+    go : (c : ℕ) (v : List ℕ) → t ≡ c ∷ v → (integral t ≡ true) × (integer_said t ≡ Some (Plus n))
     go c v e =
         let o : digits_only (c ∷ v) ≡ true = ap digits_only (sym e) ∙ r.only in
         let w : value_from 0 (c ∷ v) ≡ n = ap (value_from 0) (sym e) ∙ r.says in (
@@ -228,7 +227,7 @@ text-plus n t h r = go r.head r.tail r.whole
           ap integer_said e ∙ said-plus c v (led-sign n c v o) ∙ ap plus_said w ∙ rw (lt-ltb n (2 ^ 63) h),
         )
 
-minus_is : (n : ℕ) → n < 2 ^ 63 → minus_said (n + 1) ≡ Is (Minus n)
+minus_is : (n : ℕ) → n < 2 ^ 63 → minus_said (n + 1) ≡ Some (Minus n)
 minus_is n h =
     let e : n + 1 - 1 ≡ n = omega arith in
     rw (ne_eqb (n + 1) 0 (λ z. omega arith), e, lt-ltb n (2 ^ 63) h)
@@ -238,7 +237,7 @@ unfolding decimal_of
 text-integral (Plus n) h = (text-plus n (decimal n) h (decimal-led n (omega (arith, h)))).0
 text-integral (Minus n) h = integral-minus 45 (decimal (n + 1)) refl ∙ led-plain (n + 1) (decimal (n + 1)) (decimal-led (n + 1) (omega (arith, h)))
 
-pub text_says : (i : Integer) → Held i → integer_said (decimal_of i) ≡ Is i
+pub text_says : (i : Integer) → Held i → integer_said (decimal_of i) ≡ Some i
 unfolding decimal_of
 text_says (Plus n) h = (text-plus n (decimal n) h (decimal-led n (omega (arith, h)))).1
 text_says (Minus n) h =
@@ -248,7 +247,7 @@ text_says (Minus n) h =
 -- two integers with one text are one
 pub text_injective : (i j : Integer) → Held i → Held j → decimal_of i ≡ decimal_of j → i ≡ j
 text_injective i j h g e =
-    let f : Is i ≡ Is j = sym (text_says i h) ∙ ap integer_said e ∙ text_says j g in
+    let f : Some i ≡ Some j = sym (text_says i h) ∙ ap integer_said e ∙ text_says j g in
     cc
 
 pub value_up : (a : ℕ) (t : List ℕ) → a ≤ value_from a t
@@ -305,24 +304,24 @@ pub record Told (t : List ℕ) (i : Integer) : Type 0 where
   pub held : Held i
   pub text : decimal_of i ≡ t
 
-below-is : (n : ℕ) (f : Integer) (i : Integer) → below n (λ _. f) ≡ Is i → (n < 2 ^ 63) × (f ≡ i)
+below-is : (n : ℕ) (f : Integer) (i : Integer) → below n (λ _. f) ≡ Some i → (n < 2 ^ 63) × (f ≡ i)
 below-is n f i e = go (ltb n (2 ^ 63)) refl e
   where
-    go : (b : Bool) → ltb n (2 ^ 63) ≡ b → choose b (λ _. Is f) (λ _. Wrong) ≡ Is i → (n < 2 ^ 63) × (f ≡ i)
+    go : (b : Bool) → ltb n (2 ^ 63) ≡ b → choose b (λ _. Some f) (λ _. None) ≡ Some i → (n < 2 ^ 63) × (f ≡ i)
     go true g x = (ltb-true _ _ g, cc)
     go false g x = let z : ◌≡◌ {A = ℕ} 0 1 = cc in absurd (omega arith)
 
-told-plus : (t : List ℕ) (i : Integer) → plain t ≡ true → plus_said (value_from 0 t) ≡ Is i → Told t i
+told-plus : (t : List ℕ) (i : Integer) → plain t ≡ true → plus_said (value_from 0 t) ≡ Some i → Told t i
 unfolding decimal_of
 told-plus t i e x =
     let b = below-is (value_from 0 t) (Plus (value_from 0 t)) i x in
     rw (← b.1) (record { held = b.0; text = plain-is t e (omega (arith, b.0)) })
 
-told-minus : (t : List ℕ) (i : Integer) → plain t ≡ true → minus_said (value_from 0 t) ≡ Is i → Told (45 ∷ t) i
+told-minus : (t : List ℕ) (i : Integer) → plain t ≡ true → minus_said (value_from 0 t) ≡ Some i → Told (45 ∷ t) i
 unfolding decimal_of
 told-minus t i e x = go (eqb (value_from 0 t) 0) refl x
   where
-    go : (b : Bool) → eqb (value_from 0 t) 0 ≡ b → choose b (λ _. Wrong) (λ _. below (value_from 0 t - 1) (λ _. Minus (value_from 0 t - 1))) ≡ Is i → Told (45 ∷ t) i
+    go : (b : Bool) → eqb (value_from 0 t) 0 ≡ b → choose b (λ _. None) (λ _. below (value_from 0 t - 1) (λ _. Minus (value_from 0 t - 1))) ≡ Some i → Told (45 ∷ t) i
     go true f x = let z : ◌≡◌ {A = ℕ} 0 1 = cc in absurd (omega arith)
     go false f x =
         let b = below-is (value_from 0 t - 1) (Minus (value_from 0 t - 1)) i x in
@@ -331,7 +330,7 @@ told-minus t i e x = go (eqb (value_from 0 t) 0) refl x
         let d : decimal (value_from 0 t - 1 + 1) ≡ t = ap decimal s ∙ plain-is t e (omega (arith, b.0)) in
         rw (← b.1) (record { held = b.0; text = ap (λ (l : List ℕ). 45 ∷ l) d })
 
-pub told : (t : List ℕ) (i : Integer) → integral t ≡ true → integer_said t ≡ Is i → Told t i
+pub told : (t : List ℕ) (i : Integer) → integral t ≡ true → integer_said t ≡ Some i → Told t i
 unfolding integral integer_said
 told [] i e x = absurd (true≢false (sym e))
 told (c ∷ t) i e x = go (eqb c 45) refl
@@ -345,7 +344,7 @@ told (c ∷ t) i e x = go (eqb c 45) refl
         told-plus (c ∷ t) i (sym (integral-plus c t s) ∙ e) (sym (said-plus c t s) ∙ x)
 
 -- the same, as a caller of `integer_said` has it
-pub said-held : (t : List ℕ) (r : Said) (i : Integer) → integral t ≡ true → r ≡ integer_said t → r ≡ Is i → Held i
+pub said-held : (t : List ℕ) (r : Option Integer) (i : Integer) → integral t ≡ true → r ≡ integer_said t → r ≡ Some i → Held i
 said-held t r i e f g = (told t i e (sym f ∙ g)).held
 
 digits-bytes : (t : List ℕ) → digits_only t ≡ true → Bytes t

@@ -3,6 +3,7 @@ pub mod Worked
 pub mod Places
 pub mod Little
 pub mod Writing
+pub mod Adding
 pub mod Numbers
 pub mod Integers
 pub mod Brief

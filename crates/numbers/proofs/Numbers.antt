@@ -25,10 +25,8 @@ use lib.Dec.{ltb, leb}
 use borrow.Author.Tests.{ltb-true, ltb-false, leb-true, leb-false, lt-ltb, le-ltb, lt-leb, le-leb}
 use Rattle.paper.specs.Limits.{number_least, number_most}
 use Rattle.paper.specs.Checks.{choose}
-use Rattle.numbers.specs.declared.Found.{Found}
-use Rattle.numbers.specs.declared.Found.TheVariants.{Refused, Value}
 use Rattle.numbers.specs.Bytes.{Bytes, byte, little}
-use Rattle.numbers.specs.Number.{Number, number_value, number_at, no_width, cut_off, width_zero, too_wide, NumberFault, number_past, width_off, fewest, number_of}
+use Rattle.numbers.specs.Number.{Found, Refused, Value, Number, number_value, number_at, no_width, cut_off, width_zero, too_wide, NumberFault, number_past, width_off, fewest, number_of}
 use Rattle.numbers.specs.Met.{ValueMet, Within, NumberMet, Standing}
 use Rattle.numbers.proofs.Places.{first, slice_is, bytes-slice, bytes-at}
 use Rattle.numbers.proofs.Little.{limit, limit_up, fewest-until, until-bytes, until-few, until-some, until-says, until-short, little-below}

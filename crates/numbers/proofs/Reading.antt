@@ -3,6 +3,7 @@
 use mathlib.Core.Path.{◌≡◌, refl, sym, ap, ◌∙◌}
 use mathlib.Core.List.{List, [], ◌∷◌}
 use mathlib.Core.Bool.{Bool, true, false}
+use mathlib.Core.Logic.{◌⊎◌, inl, inr}
 use Prim.Native.Nat.{ℕ, suc, ◌+◌, ◌-◌, ◌*◌, ◌^◌, ◌<◌, ◌≤◌}
 use native.Mathlib.Omega.{arith}
 use native.Mathlib.Nat.{pow-le-pow_right}
@@ -15,18 +16,14 @@ use mir.Syntax.{w8}
 use mir.Val.{Fits}
 use Rattle.paper.specs.Limits.{integer_least, integer_most, number_least, number_most}
 use Rattle.paper.specs.Refusals.{past_end, width_wrong}
-use Rattle.numbers.specs.declared.Found.TheVariants.{Refused, Value}
 use Rattle.numbers.specs.declared.Integer.{Integer}
 use Rattle.numbers.specs.declared.Integer.TheVariants.{Plus, Minus}
 use Rattle.numbers.specs.Bytes.{byte, little}
-use Rattle.numbers.specs.Number.{number_at}
+use Rattle.numbers.specs.Number.{Refused, Value, number_at}
 use Rattle.numbers.specs.Integer.{flip, integer_of}
 use Rattle.numbers.specs.Met.{Widened, turned, turned_byte, Summed, NumberMet, Standing, Taken, IntegerMet}
 use Rattle.numbers.proofs.Places.{bytes-known, bytes-slice}
 use Rattle.numbers.proofs.Integers.{says-plus, says-minus, says-held}
-
-pub turn-minus : (m : Bool) (x : ℕ) → m ≡ true → Widened (turned_byte m x) (255 - x)
-turn-minus m x e = rw e (record { same = refl; small = omega arith })
 
 -- bytes summed from the highest down to place i
 pub record Summing (s : List ℕ) (p e : ℕ) (m : Bool) (i n : ℕ) : Type 0 where
@@ -86,7 +83,7 @@ module _ (s : List ℕ) (p e : ℕ) (m : Bool) where
       let j : i ≡ p = omega (arith, t.after) in
       rw j at t.sum
 
-pub ruleset sum_rules = (turn-minus, sum-start, sum_mul, sum-add, sum-next, sum_done)
+pub ruleset sum_rules = (sum-start, sum_mul, sum-add, sum-next, sum_done)
 
 -- the number of one byte
 one_value : (s : List ℕ) (p : ℕ) → p + 1 ≤ length s → little (slice p (p + 1) s) ≡ byte s p
@@ -101,69 +98,63 @@ module _ (s : List ℕ) (p e : ℕ) where
   unfolding number_at
   found_none h = record { same = sym (rw (le-leb e p h)); met = tt }
 
-  module _ (n : ℕ) (h : p < e) (w : Widened (byte s p) n) where
+  module _ (n : ℕ) (h : p < e) (w : n ≡ byte s p) where
     here : leb e p ≡ false
     here = lt-leb e p h
 
-    pub found-narrow : n < number_least → NumberMet s p e (Refused width_wrong)
+    found-narrow : n < number_least → NumberMet s p e (Refused width_wrong)
     unfolding number_at
     found-narrow g =
-        let a : ltb (byte s p) number_least ≡ true = lt-ltb (byte s p) number_least (omega (arith, w.same)) in
+        let a : ltb (byte s p) number_least ≡ true = lt-ltb (byte s p) number_least (omega arith) in
         record { same = sym (rw (here, a)); met = tt }
 
-    pub found-wide : number_most < n → NumberMet s p e (Refused width_wrong)
+    found-wide : number_most < n → NumberMet s p e (Refused width_wrong)
     unfolding number_at
     found-wide g =
-        let a : ltb (byte s p) number_least ≡ false = le-ltb (byte s p) number_least (omega (arith, w.same)) in
-        let b : ltb number_most (byte s p) ≡ true = lt-ltb number_most (byte s p) (omega (arith, w.same)) in
+        let a : ltb (byte s p) number_least ≡ false = le-ltb (byte s p) number_least (omega arith) in
+        let b : ltb number_most (byte s p) ≡ true = lt-ltb number_most (byte s p) (omega arith) in
         record { same = sym (rw (here, a, b)); met = tt }
+
+    pub found-off : (n < number_least) ⊎ ((number_least ≤ n) × (number_most < n)) → NumberMet s p e (Refused width_wrong)
+    found-off (inl g) = found-narrow g
+    found-off (inr g) = found-wide g.1
 
     pub found_cut : number_least ≤ n → n ≤ number_most → e - (p + 1) < n → NumberMet s p e (Refused past_end)
     unfolding number_at
     found_cut l m g =
-        let a : ltb (byte s p) number_least ≡ false = le-ltb (byte s p) number_least (omega (arith, w.same)) in
-        let b : ltb number_most (byte s p) ≡ false = le-ltb number_most (byte s p) (omega (arith, w.same)) in
-        let c : ltb (e - (p + 1)) (byte s p) ≡ true = lt-ltb (e - (p + 1)) (byte s p) (omega (arith, w.same)) in
+        let a : ltb (byte s p) number_least ≡ false = le-ltb (byte s p) number_least (omega arith) in
+        let b : ltb number_most (byte s p) ≡ false = le-ltb number_most (byte s p) (omega arith) in
+        let c : ltb (e - (p + 1)) (byte s p) ≡ true = lt-ltb (e - (p + 1)) (byte s p) (omega arith) in
         record { same = sym (rw (here, a, b, c)); met = tt }
 
-    pub found-value : (v : ℕ) → number_least ≤ n → n ≤ number_most → n ≤ e - (p + 1) → Summed s (p + 1) (p + 1 + n) false v → NumberMet s p e (Value v n)
+    pub found_standing : number_least ≤ n → n ≤ number_most → n ≤ e - (p + 1) → e ≤ length s → Standing s p
+    found_standing l m g k = record { least = omega arith; most = omega arith; within = omega arith }
+
+    pub found-value : (v : ℕ) → number_least ≤ n → n ≤ number_most → n ≤ e - (p + 1) → Taken s p v → NumberMet s p e (Value v n)
     unfolding number_at
     found-value v l m g t =
-        let a : ltb (byte s p) number_least ≡ false = le-ltb (byte s p) number_least (omega (arith, w.same)) in
-        let b : ltb number_most (byte s p) ≡ false = le-ltb number_most (byte s p) (omega (arith, w.same)) in
-        let c : ltb (e - (p + 1)) (byte s p) ≡ false = le-ltb (e - (p + 1)) (byte s p) (omega (arith, w.same)) in
-        let d : byte s p ≡ n = omega (arith, w.same) in
-        let f : p + 1 + n - (p + 1) ≡ n = omega arith in
-        let z : v < 256 ^ n = rw f at t.small in
+        let a : ltb (byte s p) number_least ≡ false = le-ltb (byte s p) number_least (omega arith) in
+        let b : ltb number_most (byte s p) ≡ false = le-ltb number_most (byte s p) (omega arith) in
+        let c : ltb (e - (p + 1)) (byte s p) ≡ false = le-ltb (e - (p + 1)) (byte s p) (omega arith) in
         record {
-          same = sym (rw (here, a, b, c, d) (ap (λ (k : ℕ). Value k n) (sym t.same)));
-          met = record { small = omega (arith, z, powers n number_most m); least = l; most = m; within = omega arith };
+          same = sym (rw (here, a, b, c) (rw (t.same, w) refl));
+          met = record { small = t.small; least = l; most = m; within = omega arith };
         }
 
-    pub found_cut_one : n ≡ 1 → e - (p + 1) < 1 → NumberMet s p e (Refused past_end)
-    found_cut_one l g = found_cut (omega arith) (omega arith) (omega arith)
-
-    pub found-one : (v : ℕ) → n ≡ 1 → 1 ≤ e - (p + 1) → e ≤ length s → Widened (byte s (p + 1)) v → NumberMet s p e (Value v 1)
-    found-one v l g k t =
-        let q : v ≡ little (slice (p + 1) (p + 1 + 1) s) = t.same ∙ sym (one_value s (p + 1) (omega arith)) in
-        let f : p + 1 + 1 - (p + 1) ≡ 1 = omega arith in
-        let z : v < 256 ^ (p + 1 + 1 - (p + 1)) = rw f (omega (arith, t.small)) in
-        rw l at (found-value v (omega arith) (omega arith) (omega arith) (rw l (record { same = q; small = z })))
-
-pub ruleset found_rules = (found_none, found_cut_one, found-one, found-narrow, found-wide, found_cut, found-value)
+pub ruleset found_rules = (found_none, found-off, found_cut, found_standing, found-value)
 
 -- the value of a number that is known to be well formed
-module _ (s : List ℕ) (p n v : ℕ) (h : Standing s p) (w : Widened (byte s p) n) where
+module _ (s : List ℕ) (p n v : ℕ) (h : Standing s p) (w : n ≡ byte s p) where
   pub taken-one : n ≡ 1 → Widened (byte s (p + 1)) v → Taken s p v
   taken-one l t =
-      let e : byte s p ≡ 1 = omega (arith, w.same) in
+      let e : byte s p ≡ 1 = omega arith in
       record { same = rw e (t.same ∙ sym (one_value s (p + 1) (omega (arith, h.within)))); small = omega (arith, t.small) }
 
   pub taken_more : Summed s (p + 1) (p + 1 + n) false v → Taken s p v
   taken_more t =
       let f : p + 1 + n - (p + 1) ≡ n = omega arith in
       let z : v < 256 ^ n = rw f at t.small in
-      record { same = rw (← w.same) t.same; small = omega (arith, z, powers n 4 (omega (arith, h.most, w.same))) }
+      record { same = rw (← w) t.same; small = omega (arith, z, powers n 4 (omega (arith, h.most))) }
 
 pub ruleset taken_rules = (taken-one, taken_more)
 

@@ -1,15 +1,14 @@
 -- Worked examples: 128 and both ends of the range, in bytes and in text; bytes that are too many for an integer; and the faults of a number. What 80 and 80 00 say stands in Integers.
 -- Assumes nothing.
+use Rattle.std.specs.Prelude.{None}
 use mathlib.Core.Path.{◌≡◌, refl}
 use mathlib.Core.List.{[], ◌∷◌, map}
 use mathlib.Core.Bool.{true, false}
 use Rattle.paper.specs.Refusals.{past_end, width_wrong}
 use Rattle.numbers.specs.declared.Integer.{Integer}
 use Rattle.numbers.specs.declared.Integer.TheVariants.{Plus, Minus}
-use Rattle.numbers.specs.declared.Said.TheVariants.{Wrong}
-use Rattle.numbers.specs.declared.Found.TheVariants.{Refused, Value}
 use Rattle.numbers.specs.Bytes.{little}
-use Rattle.numbers.specs.Number.{number_at, number_of, fewest}
+use Rattle.numbers.specs.Number.{Refused, Value, number_at, number_of, fewest}
 use Rattle.numbers.specs.Integer.{sign_repeated, is_integer, brief_of, flip, clear}
 use Rattle.numbers.specs.Decimal.{decimal_of, decimal, digits, integer_said, value_from}
 
@@ -55,15 +54,15 @@ unfolding lowest-one decimal_of decimal digits
 lowest-text = refl
 
 -- one more than the highest, and -0
-past_highest : integer_said (57 ∷ 50 ∷ 50 ∷ 51 ∷ 51 ∷ 55 ∷ 50 ∷ 48 ∷ 51 ∷ 54 ∷ 56 ∷ 53 ∷ 52 ∷ 55 ∷ 55 ∷ 53 ∷ 56 ∷ 48 ∷ 56 ∷ []) ≡ Wrong
+past_highest : integer_said (57 ∷ 50 ∷ 50 ∷ 51 ∷ 51 ∷ 55 ∷ 50 ∷ 48 ∷ 51 ∷ 54 ∷ 56 ∷ 53 ∷ 52 ∷ 55 ∷ 55 ∷ 53 ∷ 56 ∷ 48 ∷ 56 ∷ []) ≡ None
 unfolding integer_said value_from
 past_highest = refl
 
-past-lowest : integer_said (45 ∷ 57 ∷ 50 ∷ 50 ∷ 51 ∷ 51 ∷ 55 ∷ 50 ∷ 48 ∷ 51 ∷ 54 ∷ 56 ∷ 53 ∷ 52 ∷ 55 ∷ 55 ∷ 53 ∷ 56 ∷ 48 ∷ 57 ∷ []) ≡ Wrong
+past-lowest : integer_said (45 ∷ 57 ∷ 50 ∷ 50 ∷ 51 ∷ 51 ∷ 55 ∷ 50 ∷ 48 ∷ 51 ∷ 54 ∷ 56 ∷ 53 ∷ 52 ∷ 55 ∷ 55 ∷ 53 ∷ 56 ∷ 48 ∷ 57 ∷ []) ≡ None
 unfolding integer_said value_from
 past-lowest = refl
 
-minus-zero : integer_said (45 ∷ 48 ∷ []) ≡ Wrong
+minus-zero : integer_said (45 ∷ 48 ∷ []) ≡ None
 unfolding integer_said value_from
 minus-zero = refl
 

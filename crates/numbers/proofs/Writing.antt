@@ -1,15 +1,14 @@
--- What is written: one byte, one text after the other, a text at the front; and a text of which a part is written.
+-- What is written in a list: one byte, one text after the other, a text at the front.
 -- Assumes nothing.
---   none, one, joined     nothing, one byte, two texts
+--   none, one, copied, joined     nothing, one byte, bytes copied, two texts
 --   as_long, front        the output's length, and the output after a text at its front
---   Writing .. rest       of t all is written but rest; `begun`, `onward`, `ended` take it from the whole to nothing
 use mathlib.Core.Path.{◌≡◌, refl, sym, ap, ◌∙◌}
-use mathlib.Core.List.{List, [], ◌∷◌, ◌++◌, append_assoc, append-nil}
-use Prim.Native.Nat.{ℕ, suc, ◌+◌, ◌≤◌}
+use mathlib.Core.List.{List, [], ◌∷◌, ◌++◌, append_assoc}
+use Prim.Native.Nat.{ℕ, suc, ◌+◌, ◌-◌, ◌≤◌}
 use native.Mathlib.Omega.{arith}
 use native.Mathlib.Nat.{add-zero, zero-add}
-use lib.ListN.{length, set, drop, length-append}
-use lib.Seq.{sets, length-sets, sets-eq}
+use lib.ListN.{length, set, take, drop, length-append}
+use lib.Seq.{sets, length-sets, sets-eq, drop-drop}
 use Rattle.numbers.specs.Met.{wrote, Wrote}
 
 pub one : (d : List ℕ) (p x : ℕ) → Wrote d p (x ∷ []) (p + 1) (set d p x)
@@ -42,30 +41,9 @@ pub front : {d d' : List ℕ} {r : ℕ} {t : List ℕ} → length t ≤ length d
 unfolding wrote
 front {d} {d'} {r} {t} h w = w.left ∙ sets-eq t d 0 (omega arith) ∙ ap (λ (k : ℕ). t ++ drop k d) (zero-add (length t))
 
--- the same text by another name
-pub renamed : {d d' : List ℕ} {p r : ℕ} {t u : List ℕ} → u ≡ t → Wrote d p t r d' → Wrote d p u r d'
-renamed {d} {d'} {p} {r} {t} {u} e w = rw e w
-
-pub record Writing (d : List ℕ) (p : ℕ) (t : List ℕ) (r : ℕ) (d' rest : List ℕ) : Type 0 where
-  pub done : List ℕ
-  pub whole : t ≡ done ++ rest
-  pub there : Wrote d p done r d'
-
-pub begun : (d : List ℕ) (p : ℕ) (t : List ℕ) → Writing d p t p d t
-begun d p t = record { done = []; whole = refl; there = none d p }
-
-pub onward : {d d' d'' : List ℕ} {p r r' : ℕ} {t a rest : List ℕ} (l : List ℕ) → l ≡ a ++ rest → Writing d p t r d' l → Wrote d' r a r' d'' → Writing d p t r' d'' rest
-onward {d} {d'} {d''} {p} {r} {r'} {t} {a} {rest} l e w v =
-    record {
-      done = w.done ++ a;
-      whole = w.whole ∙ ap (λ (x : List ℕ). w.done ++ x) e ∙ sym (append_assoc w.done a rest);
-      there = joined w.there v;
-    }
-
-pub ended : {d d' : List ℕ} {p r : ℕ} {t l : List ℕ} → l ≡ [] → Writing d p t r d' l → Wrote d p t r d'
-ended {d} {d'} {p} {r} {t} {l} e w =
-    let f : t ≡ w.done = w.whole ∙ ap (λ (x : List ℕ). w.done ++ x) e ∙ append-nil w.done in
-    renamed f w.there
-
-pub room : {d d' : List ℕ} {p r : ℕ} {t l : List ℕ} → p + length t ≤ length d → Writing d p t r d' l → r + length l ≤ length d'
-room {d} {d'} {p} {r} {t} {l} h w = omega (arith, ap length w.whole, length-append w.done l, w.there.place, as_long w.there)
+-- a part of the output that became t
+pub copied : (d : List ℕ) (p : ℕ) (t : List ℕ) → p + length t ≤ length d → (u : List ℕ) → u ≡ t → Wrote d p t (p + length t) (take p d ++ (u ++ drop (p + length t - p) (drop p d)))
+unfolding wrote
+copied d p t h u e =
+    let k : p + (p + length t - p) ≡ p + length t = omega arith in
+    record { place = refl; left = rw (e, drop-drop (p + length t - p) p d, k) (sym (sets-eq t d p h ∙ append_assoc (take p d) t (drop (p + length t) d))) }

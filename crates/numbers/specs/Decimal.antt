@@ -1,13 +1,11 @@
 -- Integers as text. Document 01, "The text": "integers in shortest decimal"; of the writer's text: "Integers hold what 8 bytes hold; `-0` is 10."
 --   decimal_of i    the text of i
 --   integral t     t is an integer of RFC 8259's grammar with no fraction or exponent: -? (0 | [1-9] [0-9]*)
---   integer_said t  the integer that such a text says, or `Wrong`: -0, or more than 8 bytes hold
-use Rattle.std.specs.Prelude.{ℕ, zero, suc, ◌+◌, ◌-◌, ◌*◌, ◌/◌, ◌%◌, ◌^◌, List, [], ◌∷◌, ◌++◌, Bool, true, false, ◌&&◌, ◌||◌, length, ltb, leb, eqb}
+--   integer_said t  the integer that such a text says, or `None`: -0, or more than 8 bytes hold
+use Rattle.std.specs.Prelude.{ℕ, zero, suc, ◌+◌, ◌-◌, ◌*◌, ◌/◌, ◌%◌, ◌^◌, List, [], ◌∷◌, ◌++◌, Bool, true, false, ◌&&◌, ◌||◌, length, ltb, leb, eqb, Option, Some, None}
 use Rattle.paper.specs.Checks.{choose}
 use Rattle.numbers.specs.declared.Integer.{Integer}
 use Rattle.numbers.specs.declared.Integer.TheVariants.{Plus, Minus}
-use Rattle.numbers.specs.declared.Said.{Said}
-use Rattle.numbers.specs.declared.Said.TheVariants.{Wrong, Is}
 
 -- the digits of n, of which there are at most k
 unfoldable pub digits : ℕ → ℕ → List ℕ
@@ -43,12 +41,12 @@ unfoldable pub value_from : ℕ → List ℕ → ℕ
 value_from n [] = n
 value_from n (c ∷ t) = value_from (10 * n + (c - 48)) t
 
-abbrev pub below : ℕ → (Unit {0} → Integer) → Said
-below n i = choose (ltb n (2 ^ 63)) (λ _. Is (i tt)) (λ _. Wrong)
+abbrev pub below : ℕ → (Unit {0} → Integer) → Option Integer
+below n i = choose (ltb n (2 ^ 63)) (λ _. Some (i tt)) (λ _. None)
 
-unfoldable pub integer_said : List ℕ → Said
-integer_said [] = Wrong
+unfoldable pub integer_said : List ℕ → Option Integer
+integer_said [] = None
 integer_said (c ∷ t) =
     choose (eqb c 45)
-    (λ _. choose (eqb (value_from 0 t) 0) (λ _. Wrong) (λ _. below (value_from 0 t - 1) (λ _. Minus (value_from 0 t - 1))))
+    (λ _. choose (eqb (value_from 0 t) 0) (λ _. None) (λ _. below (value_from 0 t - 1) (λ _. Minus (value_from 0 t - 1))))
     (λ _. below (value_from 0 (c ∷ t)) (λ _. Plus (value_from 0 (c ∷ t))))

@@ -3,3 +3,4 @@ pub mod Number
 pub mod Integer
 pub mod Decimal
 pub mod Met
+pub mod Output

@@ -9,21 +9,18 @@
 --   IntegerMet          the integer that bytes say, which 8 bytes hold
 --   too_large, capped    the least number that is too large for any integer; a number, or that one
 --   next                a number with one digit more
+--   digit_count t b n   how many digits n has to the base b, the highest below t
 --   plus_said, minus_said what digits say, without a sign and with one
-use Rattle.std.specs.Prelude.{ℕ, ◌+◌, ◌-◌, ◌*◌, ◌^◌, ◌≤◌, ◌<◌, min, ◌≡◌, List, Bool, true, false, length, eqb}
+use Rattle.std.specs.Prelude.{ℕ, zero, suc, ltb, ◌+◌, ◌-◌, ◌*◌, ◌/◌, ◌^◌, ◌≤◌, ◌<◌, min, ◌≡◌, List, Bool, true, false, length, eqb, Option, None}
 use Rattle.std.proofs.lemmas.List.Edits.{sets}
 use Rattle.std.proofs.Math.Seq.{slice}
 use Rattle.paper.specs.Limits.{number_least, number_most}
-use Rattle.numbers.specs.declared.Found.{Found}
-use Rattle.numbers.specs.declared.Found.TheVariants.{Refused, Value}
 use Rattle.numbers.specs.Bytes.{byte, little}
-use Rattle.numbers.specs.Number.{number_value, number_at}
+use Rattle.numbers.specs.Number.{Found, Refused, Value, number_value, number_at}
 use Rattle.numbers.specs.Integer.{flip, integer_of, Held}
 use Rattle.numbers.specs.Decimal.{below}
 use Rattle.numbers.specs.declared.Integer.{Integer}
 use Rattle.numbers.specs.declared.Integer.TheVariants.{Plus, Minus}
-use Rattle.numbers.specs.declared.Said.{Said}
-use Rattle.numbers.specs.declared.Said.TheVariants.{Wrong}
 use Rattle.paper.specs.Checks.{choose}
 
 -- the list d with t stored from p on
@@ -89,9 +86,17 @@ capped n = min n too_large
 abbrev pub next : ℕ → ℕ → ℕ
 next n c = 10 * n + (c - 48)
 
+-- n counted down, at most k times
+unfoldable pub digits_by : ℕ → ℕ → ℕ → ℕ → ℕ
+digits_by zero t b n = 1
+digits_by (suc k) t b n = choose (ltb n t) (λ _. 1) (λ _. suc (digits_by k t b (n / b)))
+
+abbrev pub digit_count : ℕ → ℕ → ℕ → ℕ
+digit_count t b n = digits_by n t b n
+
 -- what digits that say n say, without a sign and with one
-abbrev pub plus_said : ℕ → Said
+abbrev pub plus_said : ℕ → Option Integer
 plus_said n = below n (λ _. Plus n)
 
-abbrev pub minus_said : ℕ → Said
-minus_said n = choose (eqb n 0) (λ _. Wrong) (λ _. below (n - 1) (λ _. Minus (n - 1)))
+abbrev pub minus_said : ℕ → Option Integer
+minus_said n = choose (eqb n 0) (λ _. None) (λ _. below (n - 1) (λ _. Minus (n - 1)))

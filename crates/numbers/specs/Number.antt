@@ -1,16 +1,18 @@
 -- Document 01, "The payload": "A non-negative number: one byte N, then N bytes. N is 1 to 4 (house); leading zeros are taken."
 --   Number n b       the bytes b write the number n
 --   number_value s p  the value of the number that stands at p, if one does; its width is the byte there
+--   Found            what stands where a number is due: a refusal's number, or the value and the width N; `found`: the code's form of it
 --   number_at s p e   the number that stands at p and has to end by e: its value and its width N, or the refusal
 --   NumberPast       the number due at p passes e; WidthOff: its N is out of bounds; NumberFault: the one or the other, with its refusal
 --   number_of n       the shortest bytes that write n
-use Rattle.std.specs.Prelude.{ℕ, zero, suc, ◌+◌, ◌-◌, ◌/◌, ◌%◌, ◌≤◌, ◌<◌, ◌≡◌, List, [], ◌∷◌, length, ltb, leb}
+use Rattle.std.specs.Prelude.{ℕ, zero, suc, ◌+◌, ◌-◌, ◌/◌, ◌%◌, ◌≤◌, ◌<◌, ◌≡◌, List, [], ◌∷◌, length, ltb, leb, Result, Ok, Err}
 use Rattle.std.proofs.Math.Seq.{slice}
 use Rattle.paper.specs.Limits.{number_least, number_most}
 use Rattle.paper.specs.Refusals.{past_end, width_wrong}
 use Rattle.paper.specs.Checks.{choose}
-use Rattle.numbers.specs.declared.Found.{Found}
-use Rattle.numbers.specs.declared.Found.TheVariants.{Refused, Value}
+use Rattle.paper.specs.declared.Refusal.{Refusal}
+use Rattle.paper.specs.Refusal.{number_of as refusal_number}
+use Rattle.numbers.specs.declared.Number as declared
 use Rattle.numbers.specs.Bytes.{Bytes, byte, little}
 
 pub record Number (n : ℕ) (b : List ℕ) : Type 0 where
@@ -20,6 +22,14 @@ pub record Number (n : ℕ) (b : List ℕ) : Type 0 where
   pub most : length digits ≤ number_most
   pub bytes : Bytes digits
   pub says : little digits ≡ n
+
+pub data Found : Type 0 where
+  Refused : ℕ → Found
+  Value : ℕ → ℕ → Found
+
+abbrev pub found : Result declared.Number Refusal → Found
+found (Err k) = Refused (refusal_number k)
+found (Ok n) = Value n.value n.width
 
 abbrev pub number_value : List ℕ → ℕ → ℕ
 number_value s p = little (slice (p + 1) (p + 1 + byte s p) s)

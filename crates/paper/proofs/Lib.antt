@@ -1,5 +1,6 @@
 -- Laws that the crates above cite.
 pub mod Tests
+pub mod Chains
 pub mod Checks
 pub mod Lending
-pub mod Agreeing
+pub mod Refusing

@@ -1,12 +1,16 @@
--- Laws of the tests: `&&` and `||` by their parts, `all` at each number and step by step as a loop goes, `same` as equality.
+-- Laws of the tests: `&&` and `||` by their parts, `all` at each number and step by step as a loop goes, `same` as equality and as the code's `==`.
 -- Assumes nothing.
-use Prim.Native.Nat.{ℕ, zero, suc, ◌+◌, ◌≤◌, ◌<◌}
+use Prim.Native.Nat.{ℕ, zero, suc, ◌+◌, ◌-◌, ◌≤◌, ◌<◌}
 use mathlib.Core.Path.{◌≡◌, refl, sym, ap, ◌∙◌}
 use mathlib.Core.List.{List, [], ◌∷◌}
 use mathlib.Core.Bool.{Bool, true, false, not, ◌&&◌, ◌||◌, true≢false}
 use native.Mathlib.Omega.{arith}
 use native.Mathlib.Numerals.{add-one}
 use lib.Dec.{eqb}
+use lib.ListN.{get_or, take, drop}
+use lib.Pointwise.{pointwise}
+use lib.Seq.{slice, get_or-take, get_or-drop}
+use Rattle.std.proofs.lemmas.Slice.{between_is}
 use borrow.Author.Tests.{eqb-true, eqb-false, eq-eqb, not-true, not-false}
 use Rattle.paper.specs.Tests.{all, same, Passing}
 
@@ -116,6 +120,21 @@ same_eq a b e = rw e (same_refl b)
 
 pub same_ne : (a b : List ℕ) → (a ≡ b → ⊥) → same a b ≡ false
 same_ne a b f = not_so (same a b) λ e. f (same_true a b e)
+
+-- what the code's `==` says of two slices, and of two parts `&d[a..m] == &t[b..n]`
+pub same-pointwise : (a b : List ℕ) → pointwise eqb a b ≡ same a b
+unfolding same
+same-pointwise [] [] = refl
+same-pointwise [] (y ∷ b) = refl
+same-pointwise (x ∷ a) [] = refl
+same-pointwise (x ∷ a) (y ∷ b) = ap (λ t. eqb x y && t) (same-pointwise a b)
+
+pub same_parts : (d : List ℕ) (a m : ℕ) (t : List ℕ) (b n : ℕ) (r : Bool) → r ≡ pointwise eqb (take (m - a) (drop a d)) (take (n - b) (drop b t)) → r ≡ same (slice a m d) (slice b n t)
+same_parts d a m t b n r e = rw (← between_is d a m, ← between_is t b n) (e ∙ same-pointwise _ _)
+
+-- a byte of a part
+pub get_d_slice : (d : List ℕ) (a n i : ℕ) → i < n → get_or (slice a (a + n) d) i 0 ≡ get_or d (a + i) 0
+get_d_slice d a n i h = get_or-drop a _ i 0 ∙ get_or-take (a + n) d (a + i) 0 (omega arith)
 
 -- a loop that stops at the first of n that fails: each way on
 pub pass-start : (P : ℕ → Bool) (n : ℕ) → Passing P n 0

@@ -1,8 +1,8 @@
--- Values told to a caller in C, who lends a row of numbers for them.
+-- Values told to a caller in C, who lends a row for them.
 --   laid values row    the row after the values were laid into it, from its start and as far as there is room
-use Rattle.std.specs.Prelude.{ℕ, List, [], ◌∷◌}
+use Rattle.std.specs.Prelude.{List, [], ◌∷◌}
 
-unfoldable pub laid : List ℕ → List ℕ → List ℕ
+unfoldable pub laid : {A : Type 0} → List A → List A → List A
 laid [] row = row
 laid (v ∷ values) [] = []
 laid (v ∷ values) (x ∷ row) = v ∷ laid values row

@@ -1,7 +1,7 @@
 // The numbers of the paper's two tables that the code uses. Their meaning stands in specs/: Limits and Refusals.
 #![tactic(auto)]
 
-pub mod bytes;
+pub mod lent;
 
 ghost use Rattle.std.specs.Prelude.{◌≡◌};
 ghost use Rattle.paper.specs.Refusal.{number_of};
@@ -33,63 +33,6 @@ pub const DESK_MOST: usize = 8;
 pub const DECLARED_MOST: usize = 4096;
 
 pub const STORE_BYTES: usize = 32768;
-
-pub const ACCEPTED: u8 = 0;
-
-pub const DICTIONARY_WRONG: u8 = 1;
-
-pub const LENGTH_WRONG: u8 = 2;
-
-pub const HEADER_DIFFERS: u8 = 3;
-
-pub const PAST_END: u8 = 4;
-
-pub const WIDTH_WRONG: u8 = 5;
-
-pub const NOT_KNOWN: u8 = 6;
-
-pub const GIVEN_TWICE: u8 = 7;
-
-pub const NOT_IN_BASE: u8 = 8;
-
-pub const MISFIT: u8 = 9;
-
-pub const VALUE_WRONG: u8 = 10;
-
-pub const TOO_DEEP: u8 = 11;
-
-pub const BUDGET_SPENT: u8 = 12;
-
-pub const AFTER_ROOT: u8 = 13;
-
-pub const NO_ROOM: u8 = 14;
-
-pub const BAD_TEXT: u8 = 15;
-
-pub const NOT_SOUND: u8 = 20;
-
-pub const NUMBER_ZERO: u8 = 21;
-
-pub const IN_USE: u8 = 22;
-
-pub const ALL_TAKEN: u8 = 23;
-
-pub const NO_SUCH_NUMBER: u8 = 24;
-
-pub const NOT_ALLOWED: u8 = 25;
-
-pub const OPEN_WRONG: u8 = 26;
-
-pub const AMOUNT_WRONG: u8 = 27;
-
-// What a call of the reader or the writer answers.
-#[derive(Clone, Copy)]
-pub struct Answer {
-    pub number: u8,
-    pub place: usize,
-    pub count: usize,
-    pub length: usize,
-}
 
 // "A refusal is a number and a place": its number, by name.
 #[derive(Clone, Copy, PartialEq, Eq)]
@@ -125,6 +68,16 @@ impl Refusal {
         ensures { result ≡ number_of self }
     {
         self as u8
+    }
+
+    pub fn at(self, place: usize) -> Refused
+        ensures refusal { result.refusal ≡ self }
+        ensures place { result.place ≡ place }
+    {
+        Refused {
+            refusal: self,
+            place,
+        }
     }
 }
 

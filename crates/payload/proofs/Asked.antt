@@ -18,9 +18,8 @@ use Rattle.paper.specs.Refusals.{past_end, not_in_base, misfit}
 use Rattle.paper.specs.Checks.{Judged, good, refuse, need}
 use Rattle.paper.proofs.Tests.{and_left, and_right}
 use Rattle.paper.proofs.Checks.{passed, needed}
-use Rattle.numbers.specs.declared.Found.TheVariants.{Value}
 use Rattle.numbers.specs.Bytes.{Bytes, byte}
-use Rattle.numbers.specs.Number.{Number, number_at}
+use Rattle.numbers.specs.Number.{Value, Number, number_at}
 use Rattle.numbers.proofs.Places.{first, bytes-at}
 use Rattle.dictionary.specs.Formats.{set_form, real_form, boolean_form}
 use Rattle.payload.specs.Tree.{Tuples}

@@ -17,10 +17,8 @@ use borrow.Author.Tests.{ltb-true, ltb-false, leb-true, leb-false, eqb-true, eqb
 use Rattle.paper.specs.Refusals.{past_end, width_wrong, not_known, given_twice, not_in_base, misfit, value_wrong, too_deep, budget_spent}
 use Rattle.paper.specs.Checks.{Judged, refused, refuse, need}
 use Rattle.paper.proofs.Checks.{refuse_stop, need_stop, refuse_like, need_like}
-use Rattle.numbers.specs.declared.Found.{Found}
-use Rattle.numbers.specs.declared.Found.TheVariants.{Refused, Value}
 use Rattle.numbers.specs.Bytes.{Bytes, byte}
-use Rattle.numbers.specs.Number.{number_at, NumberFault, number_past, width_off}
+use Rattle.numbers.specs.Number.{Found, Refused, Value, number_at, NumberFault, number_past, width_off}
 use Rattle.numbers.proofs.Numbers.{number_fault}
 use Rattle.payload.specs.Tree.{Scalar}
 use Rattle.payload.specs.Values.{Valued, wrong, worth}

@@ -19,10 +19,8 @@ use Rattle.paper.specs.Limits.{payload_least, depth_most}
 use Rattle.paper.specs.Refusals.{too_deep}
 use Rattle.paper.specs.Checks.{choose, Judged, refused, good, after}
 use Rattle.paper.proofs.Checks.{never, same_place, same_left, same_thing, followed, need_stop, after_stop}
-use Rattle.numbers.specs.declared.Found.{Found}
-use Rattle.numbers.specs.declared.Found.TheVariants.{Refused, Value}
 use Rattle.numbers.specs.Bytes.{Bytes}
-use Rattle.numbers.specs.Number.{number_at}
+use Rattle.numbers.specs.Number.{Found, Refused, Value, number_at}
 use Rattle.numbers.proofs.Places.{bytes-slice}
 use Rattle.numbers.proofs.Numbers.{number_fault}
 use Rattle.dictionary.specs.Formats.{set_form, enum_form}

@@ -12,10 +12,8 @@ use native.Mathlib.Omega.{arith}
 use lib.ListN.{length, drop, length-append, length-drop}
 use lib.Seq.{slice, drop-drop, drop-append_seam, drop-cons, length-slice}
 use Rattle.paper.specs.Checks.{Judged}
-use Rattle.numbers.specs.declared.Found.{Found}
-use Rattle.numbers.specs.declared.Found.TheVariants.{Value}
 use Rattle.numbers.specs.Bytes.{Bytes, byte}
-use Rattle.numbers.specs.Number.{Number, number_at}
+use Rattle.numbers.specs.Number.{Found, Value, Number, number_at}
 use Rattle.numbers.proofs.Places.{slice_is, slice-lies}
 use Rattle.numbers.proofs.Numbers.{number-at, at-number, Stands, stands}
 use Rattle.payload.specs.Reading.{number}

@@ -9,7 +9,7 @@ use mathlib.Core.List.{List, ◌++◌}
 use native.Mathlib.Omega.{arith}
 use lib.ListN.{length, drop}
 use Rattle.paper.specs.Refusals.{accepted}
-use Rattle.paper.specs.declared.Answer.{Answer}
+use Rattle.paper.specs.Refusal.{Answer}
 use Rattle.numbers.specs.Bytes.{Bytes}
 use Rattle.payload.specs.Reading.{result, reads}
 use Rattle.payload.specs.Answered.{Answered}

@@ -15,10 +15,8 @@ use borrow.Author.Tests.{lt-leb, le-leb, leb-true, leb-false, ltb-false}
 use Rattle.paper.specs.Limits.{number_least, number_most}
 use Rattle.paper.specs.Refusals.{past_end, width_wrong}
 use Rattle.paper.specs.Checks.{choose}
-use Rattle.numbers.specs.declared.Found.{Found}
-use Rattle.numbers.specs.declared.Found.TheVariants.{Refused, Value}
 use Rattle.numbers.specs.Bytes.{byte, little}
-use Rattle.numbers.specs.Number.{number_at}
+use Rattle.numbers.specs.Number.{Found, Refused, Value, number_at}
 use Rattle.numbers.specs.Met.{ValueMet, NumberMet}
 use Rattle.numbers.proofs.Places.{slice-take}
 

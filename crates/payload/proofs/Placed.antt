@@ -16,10 +16,8 @@ use Rattle.dictionary.specs.Formats.{null_form, integer_form, enum_form, string_
 use Rattle.paper.specs.Refusals.{past_end, width_wrong, not_known, given_twice, not_in_base, misfit, value_wrong, too_deep, budget_spent}
 use Rattle.paper.specs.Limits.{payload_least, depth_most, number_least, number_most}
 use Rattle.paper.specs.Checks.{choose, Judged, refused, good, refuse, need, after}
-use Rattle.numbers.specs.declared.Found.{Found}
-use Rattle.numbers.specs.declared.Found.TheVariants.{Refused, Value}
 use Rattle.numbers.specs.Bytes.{byte}
-use Rattle.numbers.specs.Number.{number_at}
+use Rattle.numbers.specs.Number.{Found, Refused, Value, number_at}
 use Rattle.numbers.specs.Integer.{is_integer}
 use Rattle.numbers.proofs.Numbers.{stands}
 use Rattle.dictionary.specs.Children.{child_numbered}

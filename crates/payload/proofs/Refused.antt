@@ -13,10 +13,8 @@ use lib.Seq.{slice}
 use borrow.Author.Tests.{ltb-false, lt-ltb, lt-leb, le-leb, eq-eqb, ne_eqb}
 use Rattle.paper.specs.Refusals.{past_end, width_wrong, not_known, given_twice, not_in_base, misfit, value_wrong, too_deep, budget_spent}
 use Rattle.paper.specs.Checks.{refused, good}
-use Rattle.numbers.specs.declared.Found.{Found}
-use Rattle.numbers.specs.declared.Found.TheVariants.{Refused, Value}
 use Rattle.numbers.specs.Bytes.{Bytes, byte}
-use Rattle.numbers.specs.Number.{number_at, NumberFault, number_past, width_off}
+use Rattle.numbers.specs.Number.{Found, Refused, Value, number_at, NumberFault, number_past, width_off}
 use Rattle.numbers.proofs.Places.{bytes-slice}
 use Rattle.numbers.proofs.Numbers.{number_fault}
 use Rattle.dictionary.specs.Formats.{enum_form}

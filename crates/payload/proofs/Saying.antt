@@ -2,6 +2,7 @@
 -- Assumes that r and new are such an answer and buffer (`Answered`).
 --   zero_exactly, zero_so     number 0: when, and with which place, count, length and buffer
 --   above_exactly, above_so   a number above 0: when, and that count and length are 0 and the buffer stays
+--   told-refused, told_done    the code's form of a refusal, whose count and length are 0, and of a result
 --   one-outcome               two answers and buffers by one contract are the same
 use Prim.Native.Nat.{ℕ}
 use mathlib.Core.Path.{◌≡◌, refl, sym, ap, ◌∙◌}
@@ -9,9 +10,20 @@ use mathlib.Core.Logic.{◌↔◌}
 use mathlib.Core.List.{List, ◌++◌}
 use lib.ListN.{length, drop}
 use Rattle.paper.specs.Refusals.{accepted}
-use Rattle.paper.specs.declared.Answer.{Answer}
+use Rattle.std.specs.Prelude.{Ok, Err}
+use Rattle.paper.specs.declared.Refused.{Refused}
+use Rattle.paper.specs.declared.Done.{Done}
+use Rattle.paper.specs.Refusal.{Answer, told}
+use Rattle.paper.specs.Refusal as table
 use Rattle.payload.specs.Reading.{Outcome, refusal, result, answer_of}
 use Rattle.payload.specs.Answered.{Answered}
+
+-- "A refusal changes nothing lent; its count and length are 0."
+pub told-refused : (k : Refused) → told (Err k) ≡ answer_of (refusal (table.number_of k.refusal) k.place)
+told-refused k = refl
+
+pub told_done : (a : Done) (t : List ℕ) → a.length ≡ length t → told (Ok a) ≡ answer_of (result t a.count)
+told_done a t e = ap (λ (n : ℕ). record { number = accepted; place = 0; count = a.count; length = n }) e
 
 pub one-outcome : (o : Outcome) (old : List ℕ) (r r₂ : Answer) (new new₂ : List ℕ) → Answered o old r new → Answered o old r₂ new₂ → (r ≡ r₂) × (new ≡ new₂)
 one-outcome o old r r₂ new new₂ a b = (a.answer ∙ sym b.answer, a.contents ∙ sym b.contents)

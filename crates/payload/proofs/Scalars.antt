@@ -18,10 +18,8 @@ use borrow.Author.Tests.{leb-true, eqb-true, eqb-false, le-leb, eq-eqb}
 use Rattle.paper.specs.Refusals.{value_wrong}
 use Rattle.paper.specs.Checks.{choose}
 use Rattle.paper.proofs.Tests.{and_left, and_right}
-use Rattle.numbers.specs.declared.Found.{Found}
-use Rattle.numbers.specs.declared.Found.TheVariants.{Refused, Value}
 use Rattle.numbers.specs.Bytes.{Bytes, byte, little}
-use Rattle.numbers.specs.Number.{number_at}
+use Rattle.numbers.specs.Number.{Found, Refused, Value, number_at}
 use Rattle.numbers.specs.Integer.{integer_of, is_integer}
 use Rattle.numbers.proofs.Numbers.{number-at, at-number}
 use Rattle.numbers.proofs.Brief.{is-integer}

@@ -18,8 +18,7 @@ use lib.Dec.{ltb, eqb}
 use borrow.Author.Tests.{ltb-true, ltb-false, eqb-true, eqb-false, eq-eqb, ne_eqb, not-true}
 use Rattle.paper.specs.Tests.{among}
 use Rattle.paper.proofs.Tests.{so_not, not_so}
-use Rattle.dictionary.specs.declared.Child.{Child}
-use Rattle.dictionary.specs.declared.Child.TheVariants.{At, Nothing}
+use Rattle.std.specs.Prelude.{Option, Some, None}
 use Rattle.dictionary.specs.Formats.{set_form, array_form, null_form, enum_form}
 use Rattle.dictionary.specs.Rows.{entries, kind, nullable, first_child, child_count, name}
 use Rattle.dictionary.specs.Accepts.{accepts}
@@ -66,9 +65,9 @@ module _ (d : List ℕ) (row : ℕ) (w : Family d row) (n : ℕ) where
   pub option_inside : allowed d row (option n) ≡ true → row_of (child_numbered d row n) < entries d
   option_inside e = go (child_numbered d row n) refl e
     where
-      go : (c : Child) → child_numbered d row n ≡ c → found c ≡ true → row_of c < entries d
-      go (At c) f e = (number-child d row n w c f).0
-      go Nothing f e = absurd (true≢false (sym e))
+      go : (c : Option ℕ) → child_numbered d row n ≡ c → found c ≡ true → row_of c < entries d
+      go (Some c) f e = (number-child d row n w c f).0
+      go None f e = absurd (true≢false (sym e))
 
   module _ (k : kind d row ≡ set_form) where
     pub known-set : (i : ℕ) → (known d row i n ≡ true) ↔ (n < child_count d row)

@@ -4,8 +4,7 @@ use mathlib.Core.Path.{◌≡◌, refl}
 use Prim.Native.Nat.{ℕ, ◌+◌}
 use Rattle.paper.specs.Checks.{Judged, good}
 use Rattle.paper.proofs.Checks.{never}
-use Rattle.numbers.specs.declared.Found.{Found}
-use Rattle.numbers.specs.declared.Found.TheVariants.{Refused, Value}
+use Rattle.numbers.specs.Number.{Found, Refused, Value}
 use Rattle.payload.specs.Tree.{Scalar}
 use Rattle.payload.specs.Values.{Valued, wrong, worth}
 use Rattle.payload.specs.Reading.{number, value}

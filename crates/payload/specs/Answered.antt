@@ -1,6 +1,6 @@
 -- The contract of an entry, the reader's and the writer's: number, place, count and length, and every byte of the buffer, are those of an outcome. Both are equations, so it admits one outcome.
 use Rattle.std.specs.Prelude.{ℕ, ◌≡◌, List}
-use Rattle.paper.specs.declared.Answer.{Answer}
+use Rattle.paper.specs.Refusal.{Answer}
 use Rattle.payload.specs.Reading.{Outcome, answer_of, contents_of}
 
 pub record Answered (o : Outcome) (old : List ℕ) (r : Answer) (new : List ℕ) : Type 0 where

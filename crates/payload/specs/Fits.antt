@@ -3,24 +3,22 @@
 --   known, fresh, child      of a tuple in the value of a row: its number is known there, not given before, and its row
 --   fits, allowed            a format fits a row; a scalar's value is one of the row's
 --   Fits d t row i seen      the run t fits the value of the row, from position i on and after the numbers seen
-use Rattle.std.specs.Prelude.{ℕ, suc, ◌<◌, ◌≡◌, List, [], ◌∷◌, Bool, true, false, not, eqb}
+use Rattle.std.specs.Prelude.{ℕ, suc, ◌<◌, ◌≡◌, List, [], ◌∷◌, Bool, true, false, not, eqb, Option, Some, None}
 use Rattle.paper.specs.Checks.{choose}
 use Rattle.paper.specs.Tests.{among}
-use Rattle.dictionary.specs.declared.Child.{Child}
-use Rattle.dictionary.specs.declared.Child.TheVariants.{At, Nothing}
 use Rattle.dictionary.specs.Formats.{set_form, null_form}
 use Rattle.dictionary.specs.Rows.{entries, kind, nullable, first_child}
 use Rattle.dictionary.specs.Accepts.{accepts}
 use Rattle.dictionary.specs.Children.{child_numbered}
 use Rattle.payload.specs.Tree.{Scalar, null, integer, option, string, boolean, Tuples, none, scalar, inner, format_of, shape_format}
 
-abbrev pub found : Child → Bool
-found (At c) = true
-found Nothing = false
+abbrev pub found : Option ℕ → Bool
+found (Some c) = true
+found None = false
 
-abbrev pub row_of : Child → ℕ
-row_of (At c) = c
-row_of Nothing = 0
+abbrev pub row_of : Option ℕ → ℕ
+row_of (Some c) = c
+row_of None = 0
 
 pub record GroupRow (d : List ℕ) (row : ℕ) : Type 0 where
   pub accepted : accepts d ≡ true

@@ -5,6 +5,7 @@ pub mod Writes
 pub mod Fits
 pub mod Text
 pub mod Values
+pub mod Checked
 pub mod Reading
 pub mod Answered
 pub mod Lying

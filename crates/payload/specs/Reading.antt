@@ -4,17 +4,16 @@
 --   tuple_at, run, inside_of   one tuple, a number of them, and the value of a set or array
 --   root_at                   the root
 --   reads d s budget room    the answer to a call
-use Rattle.std.specs.Prelude.{ℕ, zero, suc, ◌+◌, ◌-◌, ◌/◌, ◌%◌, List, [], ◌∷◌, ◌++◌, Bool, true, not, ◌&&◌, ◌||◌, length, drop, ltb, leb, eqb}
+use Rattle.std.specs.Prelude.{ℕ, zero, suc, ◌+◌, ◌-◌, ◌/◌, ◌%◌, List, [], ◌∷◌, ◌++◌, Bool, true, not, ◌&&◌, ◌||◌, length, drop, ltb, leb, eqb, Option, None}
 use Rattle.std.proofs.Math.Seq.{slice}
 use Rattle.paper.specs.Limits.{payload_least, payload_most, text_most, depth_most}
 use Rattle.paper.specs.Refusals.{dictionary_wrong, length_wrong, header_differs, past_end, not_known, given_twice, not_in_base, misfit, value_wrong, too_deep, budget_spent, after_root, no_room, accepted}
 use Rattle.paper.specs.Checks.{choose, Judged, refused, good, refuse, need, after}
-use Rattle.paper.specs.declared.Answer.{Answer}
-use Rattle.numbers.specs.declared.Found.{Found}
-use Rattle.numbers.specs.declared.Found.TheVariants.{Refused, Value}
+use Rattle.paper.specs.Refusal.{Answer}
 use Rattle.numbers.specs.Bytes.{byte}
-use Rattle.numbers.specs.Number.{number_at}
-use Rattle.dictionary.specs.Formats.{set_form, real_form, boolean_form}
+use Rattle.numbers.specs.Number.{Found, Refused, Value, number_at}
+use Rattle.dictionary.specs.declared.formats.Format.{Format}
+use Rattle.dictionary.specs.Formats.{set_form, real_form, boolean_form, form_named}
 use Rattle.dictionary.specs.Accepts.{accepts}
 use Rattle.payload.specs.Tree.{Scalar, Tuples, none, scalar, inner}
 use Rattle.payload.specs.declared.Shape.{Shape}
@@ -49,6 +48,10 @@ value (worth x) at go = go x
 -- "deferred bit and format supported": the formats of the base are 0 to 5 and 7
 unfoldable pub supported : ℕ → Bool
 supported form = eqb (form % 2) 0 && not (eqb (form / 16) real_form) && leb (form / 16) boolean_form
+
+-- the format of such a byte
+abbrev pub supported_format : ℕ → Option Format
+supported_format form = choose (supported form) (λ _. form_named (form / 16)) (λ _. None)
 
 abbrev pub is_group : ℕ → Bool
 is_group f = ltb f 2

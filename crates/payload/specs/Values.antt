@@ -2,10 +2,8 @@
 use Rattle.std.specs.Prelude.{ℕ, ◌+◌, ◌-◌, List, Bool, true, false, ◌&&◌, length, take, leb, eqb}
 use Rattle.paper.specs.Refusals.{value_wrong}
 use Rattle.paper.specs.Checks.{choose}
-use Rattle.numbers.specs.declared.Found.{Found}
-use Rattle.numbers.specs.declared.Found.TheVariants.{Refused, Value}
 use Rattle.numbers.specs.Bytes.{byte}
-use Rattle.numbers.specs.Number.{number_at}
+use Rattle.numbers.specs.Number.{Found, Refused, Value, number_at}
 use Rattle.numbers.specs.Integer.{integer_of, is_integer}
 use Rattle.dictionary.specs.Formats.{null_form, integer_form, enum_form, string_form}
 use Rattle.dictionary.specs.Children.{child_numbered}

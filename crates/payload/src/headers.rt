@@ -3,21 +3,10 @@ ghost use Rattle.std.specs.Prelude.{◌≡◌, ◌≤◌, length};
 ghost use Rattle.paper.specs.Limits.{payload_least};
 ghost use Rattle.payload.specs.Header.{header_agrees};
 
+#[tactic(auto, using(crate::proofs::Leaves::headers))]
 pub fn header_agrees(s: &[u8]) -> bool
     requires { payload_least ≤ length s.now }
     ensures { result ≡ header_agrees s.now }
 {
-    if s[0] != 0x00 {
-        return false;
-    }
-    if s[1] != 0xF0 {
-        return false;
-    }
-    if s[2] != 0xF0 {
-        return false;
-    }
-    if s[3] != 0xF1 {
-        return false;
-    }
-    s[6] == 0x00
+    s.starts_with(&[0x00, 0xF0, 0xF0, 0xF1]) && s[6] == 0x00
 }

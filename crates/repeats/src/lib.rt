@@ -1,34 +1,48 @@
 // Which children of a set have been given, a bit for each row of the dictionary: a repeat is seen at one look, whatever the order.
 #![tactic(auto)]
 
-ghost use Rattle.std.specs.Prelude.{◌≡◌, ◌<◌};
-ghost use Rattle.repeats.specs.Roll.{rows_most, marked, Power, Open, Gave};
+ghost use Rattle.std.specs.Prelude.{ℕ, List, length, ◌≡◌, ◌<◌};
+ghost use Rattle.repeats.specs.Roll.{rows_most, roll_bytes, marked, Blank, Gave};
 
 use dictionary::rows::ROWS_MOST;
-use numbers::wide;
+use std::marker::Model;
 
-pub const ROLL_BYTES: usize = ROWS_MOST / 8;
+const ROLL_BYTES: usize = ROWS_MOST / 8;
 
-const POWERS: [u8; 8] = [1, 2, 4, 8, 16, 32, 64, 128];
-
-fn power(k: usize) -> usize
-    requires { k < 8 }
-    ensures { Power k result }
-{
-    wide(POWERS[k])
+#[derive(Drop)]
+pub struct Roll {
+    bits: [u8; ROLL_BYTES],
 }
 
-pub fn given(bits: &[u8; ROLL_BYTES], row: usize) -> bool
-    requires { row < rows_most }
-    ensures { result ≡ marked bits.now row }
-{
-    wide(bits[row / 8]) / power(row % 8) % 2 == 1
+impl Model for Roll {
+    ghost Value = { List ℕ };
+
+    ghost view = { λ r. r.bits };
+
+    ghost invariant = { λ r. length r.bits ≡ roll_bytes };
 }
 
-pub fn give(bits: &mut [u8; ROLL_BYTES], row: usize)
-    requires { Open bits.old row }
-    ensures { Gave bits.old row bits.new }
-{
-    let at = row / 8;
-    bits[at] = (wide(bits[at]) + power(row % 8)) as u8;
+impl Roll {
+    pub fn new() -> Roll
+        ensures { Blank result }
+    {
+        Roll {
+            bits: [0; ROLL_BYTES],
+        }
+    }
+
+    #[tactic(auto, using(crate::proofs::Bits::look))]
+    pub fn given(&self, row: usize) -> bool
+        requires { row < rows_most }
+        ensures { result ≡ marked self.now row }
+    {
+        self.bits[row / 8] >> (row % 8) & 1 == 1
+    }
+
+    pub fn give(&mut self, row: usize)
+        requires { row < rows_most }
+        ensures { Gave self.old row self.new }
+    {
+        self.bits[row / 8] |= 1 << (row % 8);
+    }
 }

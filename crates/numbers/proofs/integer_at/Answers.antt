@@ -7,5 +7,5 @@ use Rattle.numbers.proofs.integer_at.Goals as goal
 pub returns-then-s-end-lt128 : goal.returns-then-s-end-lt128
 returns-then-s-end-lt128 c = search (integer_rules, rules)
 
-pub returns : goal.returns
-returns c = search (integer_rules, rules)
+pub returns-else-s-end-lt128 : goal.returns-else-s-end-lt128
+returns-else-s-end-lt128 c = search (integer_rules, rules)

@@ -7,8 +7,8 @@ use Rattle.numbers.proofs.value_at.Goals as goal
 pub next_value-n-requires : goal.next_value-n-requires
 next_value-n-requires c = search (value_rules, rules)
 
-pub loop-i-preserved : goal.loop-i-preserved
-loop-i-preserved c = search (value_rules, rules)
+pub loop-c-preserved : goal.loop-c-preserved
+loop-c-preserved c = search (value_rules, rules)
 
 pub returns : goal.returns
 returns c = search (value_rules, rules)

@@ -13,5 +13,5 @@ first_child-requires c = search (numbering, rules)
 pub returns-then-number-child_count : goal.returns-then-number-child_count
 returns-then-number-child_count c = search (numbering, rules)
 
-pub returns : goal.returns
-returns c = search (numbering, rules)
+pub returns-else-number-child_count : goal.returns-else-number-child_count
+returns-else-number-child_count c = search (numbering, rules)

@@ -4,11 +4,8 @@ use Rattle.std.proofs.Common.{rules}
 use Rattle.dictionary.proofs.Asking.{measuring}
 use Rattle.dictionary.proofs.children.name_long.Goals as goal
 
-pub name_length-long-requires : goal.name_length-long-requires
-name_length-long-requires c = search (measuring, rules)
-
-pub returns-then-long-eq0 : goal.returns-then-long-eq0
-returns-then-long-eq0 c = search (measuring, rules)
+pub name_length-requires : goal.name_length-requires
+name_length-requires c = search (measuring, rules)
 
 pub returns : goal.returns
 returns c = search (measuring, rules)
