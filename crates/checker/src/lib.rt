@@ -10,15 +10,9 @@ use checker_names::names_fine;
 use dictionary::rows::entry_count;
 
 // Whether any bytes at all are a dictionary that document 01 accepts.
+#[tactic(auto, using(crate::proofs::Accepted::acceptance))]
 pub fn accepts(d: &[u8]) -> bool
     ensures { result ≡ accepts d.now }
 {
-    if !header_fine(d) {
-        return false;
-    }
-    let n = entry_count(d);
-    if !names_fine(d, n) {
-        return false;
-    }
-    families_fine(d, n)
+    header_fine(d) && names_fine(d, entry_count(d)) && families_fine(d, entry_count(d))
 }

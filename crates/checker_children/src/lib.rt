@@ -4,153 +4,108 @@
 ghost use Rattle.std.specs.Prelude.{◌≡◌, ◌+◌, ◌≤◌, ◌<◌, length};
 ghost use Rattle.paper.specs.Tests.{all};
 ghost use Rattle.dictionary.specs.Rows.{row_at, row_bytes};
-ghost use Rattle.dictionary.specs.Accepts.{childless, block_fine, string_child, set_fine, array_fine, enum_fine, leaf_form, children_fine};
-ghost use Rattle.dictionary.specs.Met.{Rowed, Named};
-ghost use Rattle.checker_members.specs.Marks.{Marks, Marked};
+ghost use Rattle.dictionary.specs.Accepts.{childless, block_fine, string_child, set_fine, array_fine, enum_fine, children_fine};
+ghost use Rattle.dictionary.specs.Met.{Named};
 
-use checker_members::members_fine;
-use dictionary::formats::{ARRAY, BOOLEAN, ENUM, INTEGER, SET, STRING};
+use checker_members::Rows;
+use dictionary::formats::Format;
 use dictionary::rows::{
-    HEADER_BYTES, ROW_BYTES, ROWS_MOST, child_count, child_offset, first_child, format_nibble,
+    HEADER_BYTES, ROW_BYTES, ROWS_MOST, child_count, child_offset, first_child, format_of,
     sequence_number,
 };
 
+#[tactic(auto, unfolding(dictionary::specs::Accepts::childless))]
 fn has_none(d: &[u8], row: usize) -> bool
     requires { row_at row + row_bytes ≤ length d.now }
     ensures { result ≡ childless d.now row }
 {
-    if child_offset(d, row) == 0 {
-        return child_count(d, row) == 0;
-    }
-    false
+    child_offset(d, row) == 0 && child_count(d, row) == 0
 }
 
-fn block_fine(d: &[u8], n: usize, row: usize) -> bool
-    requires rowed { Rowed d.now n }
-    requires row_in { row < n }
-    ensures { result ≡ block_fine d.now row }
+#[tactic(auto, unfolding(dictionary::specs::Accepts::block_fine))]
+fn block_fine(rows: &Rows, row: usize) -> bool
+    requires { row < rows.now.n }
+    ensures { result ≡ block_fine rows.now.d.now row }
 {
-    if has_none(d, row) {
-        return true;
-    }
+    let d = rows.d;
     let offset = child_offset(d, row);
-    if offset < HEADER_BYTES {
-        return false;
-    }
-    if (offset - HEADER_BYTES) % ROW_BYTES != 0 {
-        return false;
-    }
-    first_child(d, row) + child_count(d, row) <= n
+    has_none(d, row)
+        || offset >= HEADER_BYTES
+            && (offset - HEADER_BYTES) % ROW_BYTES == 0
+            && first_child(d, row) + child_count(d, row) <= rows.n
 }
 
 // All children, `count` rows from `first` on, are strings.
-fn only_strings(d: &[u8], n: usize, first: usize, count: usize) -> bool
-    requires rowed { Rowed d.now n }
-    requires members_in { first + count ≤ n }
-    ensures { result ≡ all count (string_child d.now first) }
+fn only_strings(rows: &Rows, first: usize, count: usize) -> bool
+    requires { first + count ≤ rows.now.n }
+    ensures { result ≡ all count (string_child rows.now.d.now first) }
 {
-    let mut p: usize = 0;
-    while p < count {
-        if format_nibble(d, first + p) != STRING {
-            return false;
-        }
-        p += 1;
-    }
-    true
+    (0..count).all(|p| format_of(rows.d, first + p) == Some(Format::String))
 }
 
-fn set_fine(d: &[u8], n: usize, row: usize, marks: &mut [u8; ROWS_MOST]) -> bool
-    requires named { Named d.now n }
-    requires marks { Marks d.now marks.old }
-    requires row_in { row < n }
-    ensures { Marked d.now (set_fine d.now row) result marks.new }
+#[tactic(auto, using(dictionary::proofs::Laws::block_inside), unfolding(dictionary::specs::Accepts::set_fine))]
+fn set_fine(rows: &mut Rows, row: usize) -> bool
+    requires { row < rows.old.n }
+    ensures kept { (rows.new.d ≡ rows.old.d) × (rows.new.n ≡ rows.old.n) }
+    ensures answer { result ≡ set_fine rows.old.d.now row }
 {
-    if !block_fine(d, n, row) {
-        return false;
-    }
-    members_fine(d, n, first_child(d, row), child_count(d, row), marks)
+    let d = rows.d;
+    block_fine(rows, row) && rows.members_fine(first_child(d, row), child_count(d, row))
 }
 
-fn array_fine(d: &[u8], n: usize, row: usize) -> bool
-    requires rowed { Rowed d.now n }
-    requires row_in { row < n }
-    ensures { result ≡ array_fine d.now row }
+#[tactic(auto, using(dictionary::proofs::Laws::block_inside), unfolding(paper::specs::Tests::all, dictionary::specs::Accepts::array_fine, dictionary::specs::Accepts::in_turn))]
+fn array_fine(rows: &Rows, row: usize) -> bool
+    requires { row < rows.now.n }
+    ensures { result ≡ array_fine rows.now.d.now row }
 {
-    if !block_fine(d, n, row) {
-        return false;
-    }
-    if child_count(d, row) != 1 {
-        return false;
-    }
-    sequence_number(d, first_child(d, row)) == 0
+    let d = rows.d;
+    block_fine(rows, row)
+        && child_count(d, row) == 1
+        && sequence_number(d, first_child(d, row)) == 0
 }
 
-fn enum_fine(d: &[u8], n: usize, row: usize, marks: &mut [u8; ROWS_MOST]) -> bool
-    requires named { Named d.now n }
-    requires marks { Marks d.now marks.old }
-    requires row_in { row < n }
-    ensures { Marked d.now (enum_fine d.now row) result marks.new }
+#[tactic(auto, using(dictionary::proofs::Laws::block_inside), unfolding(dictionary::specs::Accepts::enum_fine))]
+fn enum_fine(rows: &mut Rows, row: usize) -> bool
+    requires { row < rows.old.n }
+    ensures kept { (rows.new.d ≡ rows.old.d) × (rows.new.n ≡ rows.old.n) }
+    ensures answer { result ≡ enum_fine rows.old.d.now row }
 {
-    if !block_fine(d, n, row) {
-        return false;
-    }
-    let first = first_child(d, row);
-    let count = child_count(d, row);
-    if count < 1 {
-        return false;
-    }
-    if !only_strings(d, n, first, count) {
-        return false;
-    }
-    members_fine(d, n, first, count, marks)
+    let first = first_child(rows.d, row);
+    let count = child_count(rows.d, row);
+    block_fine(rows, row)
+        && count >= 1
+        && only_strings(rows, first, count)
+        && rows.members_fine(first, count)
 }
 
-// Formats whose rows have no children.
-fn leaf(format: usize) -> bool
-    ensures { result ≡ leaf_form format }
+#[tactic(auto, unfolding(dictionary::specs::Accepts::children_fine, dictionary::specs::Accepts::leaf_form))]
+fn children_fine(rows: &mut Rows, row: usize) -> bool
+    requires { row < rows.old.n }
+    ensures kept { (rows.new.d ≡ rows.old.d) × (rows.new.n ≡ rows.old.n) }
+    ensures answer { result ≡ children_fine rows.old.d.now row }
 {
-    if format == INTEGER {
-        return true;
+    match format_of(rows.d, row) {
+        Some(Format::Set) => set_fine(rows, row),
+        Some(Format::Array) => array_fine(rows, row),
+        Some(Format::Enum) => enum_fine(rows, row),
+        Some(Format::Integer | Format::String | Format::Boolean) => has_none(rows.d, row),
+        _ => true,
     }
-    if format == STRING {
-        return true;
-    }
-    format == BOOLEAN
-}
-
-fn children_fine(d: &[u8], n: usize, row: usize, marks: &mut [u8; ROWS_MOST]) -> bool
-    requires named { Named d.now n }
-    requires marks { Marks d.now marks.old }
-    requires row_in { row < n }
-    ensures { Marked d.now (children_fine d.now row) result marks.new }
-{
-    let format = format_nibble(d, row);
-    if format == SET {
-        return set_fine(d, n, row, marks);
-    }
-    if format == ARRAY {
-        return array_fine(d, n, row);
-    }
-    if format == ENUM {
-        return enum_fine(d, n, row, marks);
-    }
-    if leaf(format) {
-        return has_none(d, row);
-    }
-    true
 }
 
 pub fn families_fine(d: &[u8], n: usize) -> bool
     requires { Named d.now n }
     ensures { result ≡ all n (children_fine d.now) }
 {
-    let mut marks = [0u8; ROWS_MOST];
-    let mut row: usize = 0;
-    while row < n {
-        if !children_fine(d, n, row, &mut marks) {
+    let mut rows = Rows {
+        d,
+        n,
+        marks: [0; ROWS_MOST],
+    };
+    for row in 0..n {
+        if !children_fine(&mut rows, row) {
             return false;
         }
-        row += 1;
     }
     true
 }

@@ -2,8 +2,7 @@
 -- The checker's marks: one a row, so that no two siblings are compared twice, whichever parents share them.
 --   Settled d j       what a mark says
 --   Marks d marks     the marks are true
---   Marked            a contract: an answer, and marks that are true
-use Rattle.std.specs.Prelude.{ℕ, suc, ◌-◌, ◌≤◌, ◌≡◌, List, Bool, true, get_or}
+use Rattle.std.specs.Prelude.{ℕ, suc, ◌-◌, ◌≤◌, ◌≡◌, List, true, get_or}
 use Rattle.paper.specs.Tests.{all}
 use Rattle.dictionary.specs.Rows.{number_in}
 use Rattle.dictionary.specs.Accepts.{member}
@@ -16,8 +15,3 @@ pub record Settled (d : List ℕ) (j : ℕ) : Type 0 where
 -- the marks, one a row, are true to the dictionary
 pub record Marks (d marks : List ℕ) : Type 0 where
   pub told : (j : ℕ) → (get_or marks j 0 ≡ 0 → ⊥) → Settled d j
-
--- an answer, and marks that are true if they were before
-pub record Marked (d : List ℕ) (answer r : Bool) (marks : List ℕ) : Type 0 where
-  pub same : r ≡ answer
-  pub marks_true : Marks d marks

@@ -1,4 +1,5 @@
-// The names' share of the dictionary checker: "A name is offset 0 with length 0, or at least 2 bytes ..".
+// The names' share of the dictionary checker: "A name is offset 0 with length 0, or at least 2 bytes ..". It comes before `Rows` of
+// checker_members, whose names are known to be fine.
 #![tactic(auto)]
 
 ghost use Rattle.std.specs.Prelude.{◌≡◌, ◌+◌, ◌≤◌, ◌<◌, length};
@@ -8,19 +9,11 @@ ghost use Rattle.dictionary.specs.Met.{Rowed};
 
 use dictionary::rows::{HEADER_BYTES, ROW_BYTES, name_length, name_offset};
 
+#[tactic(auto, unfolding(dictionary::specs::Accepts::name_byte))]
 fn name_byte(b: u8) -> bool
     ensures { result ≡ name_byte b }
 {
-    if b < 0x20 {
-        return false;
-    }
-    if b > 0x7E {
-        return false;
-    }
-    if b == 0x22 {
-        return false;
-    }
-    b != 0x5C
+    matches!(b, 0x20..=0x7E) && b != 0x22 && b != 0x5C
 }
 
 // n bytes from `at` on are bytes of names.
@@ -28,17 +21,11 @@ fn name_bytes(d: &[u8], at: usize, n: usize) -> bool
     requires { at + n ≤ length d.now }
     ensures { result ≡ all n (name_byte_at d.now at) }
 {
-    let mut i: usize = 0;
-    while i < n {
-        if !name_byte(d[at + i]) {
-            return false;
-        }
-        i += 1;
-    }
-    true
+    d[at..at + n].iter().all(|&b| name_byte(b))
 }
 
 // The name of a row, if it has one, keeps the rule.
+#[tactic(auto, unfolding(dictionary::specs::Accepts::name_fine))]
 fn name_fine(d: &[u8], n: usize, row: usize) -> bool
     requires rowed { Rowed d.now n }
     requires row_in { row < n }
@@ -46,22 +33,12 @@ fn name_fine(d: &[u8], n: usize, row: usize) -> bool
 {
     let long = name_length(d, row);
     let at = name_offset(d, row);
-    if long == 0 {
-        return at == 0;
-    }
-    if long < 2 {
-        return false;
-    }
-    if at < HEADER_BYTES + ROW_BYTES * n {
-        return false;
-    }
-    if at + long > d.len() {
-        return false;
-    }
-    if d[at + long - 1] != 0 {
-        return false;
-    }
-    name_bytes(d, at, long - 1)
+    at == 0 && long == 0
+        || long >= 2
+            && at >= HEADER_BYTES + ROW_BYTES * n
+            && at + long <= d.len()
+            && d[at + long - 1] == 0
+            && name_bytes(d, at, long - 1)
 }
 
 // Every row's name keeps the rule.
@@ -69,12 +46,5 @@ pub fn names_fine(d: &[u8], n: usize) -> bool
     requires { Rowed d.now n }
     ensures { result ≡ all n (name_fine d.now) }
 {
-    let mut row: usize = 0;
-    while row < n {
-        if !name_fine(d, n, row) {
-            return false;
-        }
-        row += 1;
-    }
-    true
+    (0..n).all(|row| name_fine(d, n, row))
 }

@@ -1,14 +1,12 @@
--- `checker_children::only_strings` meets its contract: every child is a string.
+-- `checker_children::only_strings` meets its contract: every child's format is string.
 -- Assumes nothing.
-use Rattle.std.proofs.Common.{rules}
-use Rattle.checker_children.proofs.Blocks.{strings}
+use Rattle.std.proofs.Common.{rules, tests}
+use Rattle.paper.proofs.Chains.{all_below}
+use Rattle.dictionary.specs.Accepts.{string_child}
 use Rattle.checker_children.proofs.only_strings.Goals as goal
 
-pub loop-p-init : goal.loop-p-init
-loop-p-init c = search (strings, rules)
-
-pub returns-then-format_nibble-ne-STRING : goal.returns-then-format_nibble-ne-STRING
-returns-then-format_nibble-ne-STRING c = search (strings, rules)
-
-pub loop-p-preserved : goal.loop-p-preserved
-loop-p-preserved c = search (strings, rules)
+pub returns : goal.returns
+unfolding string_child
+returns c =
+    let a = c.args in
+    all_below (string_child a.rows.now.d.now a.first) a.count (cc) c.all.ensures.ran (λ x b q k. search (rules, tests))

@@ -1,14 +1,9 @@
--- `checker_names::names_fine` meets its contract: every row's name keeps the rule.
+-- `checker_names::names_fine` meets its contract: every row's name is fine.
 -- Assumes nothing.
-use Rattle.std.proofs.Common.{rules}
-use Rattle.paper.proofs.Tests.{passing}
+use Rattle.std.proofs.Common.{rules, tests}
+use Rattle.paper.proofs.Chains.{all_below}
+use Rattle.dictionary.specs.Accepts.{name_fine}
 use Rattle.checker_names.proofs.names_fine.Goals as goal
 
-pub loop-row-init : goal.loop-row-init
-loop-row-init c = search (passing, rules)
-
-pub returns-then-not-name_fine : goal.returns-then-not-name_fine
-returns-then-not-name_fine c = search (passing, rules)
-
-pub loop-row-preserved : goal.loop-row-preserved
-loop-row-preserved c = search (passing, rules)
+pub returns : goal.returns
+returns c = all_below (name_fine c.args.d.now) c.args.n (cc) c.all.ensures.ran (λ x b q k. search (rules, tests))
