@@ -2,6 +2,7 @@
 -- Assumes nothing.
 use Prim.Native.Nat.{ℕ, ◌≤◌, ◌<◌}
 use mathlib.Core.Path.{◌≡◌, refl, sym, ap, ◌∙◌}
+use mathlib.Core.Logic.{◌⊎◌, inl, inr}
 use mathlib.Core.List.{List, ◌++◌}
 use mathlib.Core.Bool.{Bool, true, false, not, ◌||◌}
 use native.Mathlib.Omega.{arith}
@@ -13,9 +14,13 @@ use borrow.Author.Tests.{lt-ltb, le-ltb}
 use mir.Syntax.{w8}
 use mir.Val.{Fits}
 use Rattle.paper.specs.Limits.{payload_least, payload_most, text_most}
-use Rattle.paper.specs.Refusals.{accepted, dictionary_wrong, length_wrong, header_differs, no_room}
+use Rattle.paper.specs.Refusals.{dictionary_wrong, length_wrong, header_differs, no_room}
 use Rattle.paper.specs.Checks.{choose, Judged, refused, good}
-use Rattle.paper.specs.declared.Answer.{Answer}
+use Rattle.std.specs.Prelude.{Ok, Err}
+use Rattle.paper.specs.declared.Refused as declared
+use Rattle.paper.specs.declared.Refusal.TheVariants.{NoRoom}
+use Rattle.paper.specs.declared.Done.{Done}
+use Rattle.paper.specs.Refusal.{Answer, number_of, told}
 use Rattle.numbers.specs.Met.{wrote, Wrote}
 use Rattle.numbers.proofs.Places.{bytes-known}
 use Rattle.dictionary.specs.Accepts.{accepts}
@@ -23,9 +28,7 @@ use Rattle.payload.specs.Tree.{Tuples}
 use Rattle.payload.specs.Header.{header_agrees}
 use Rattle.payload.specs.Text.{root_text, root_count}
 use Rattle.payload.specs.Reading.{tree_of, Outcome, refusal, result, fitted, spoken, reads, answer_of, contents_of}
-use Rattle.reader_judge.specs.declared.Judgement.{Judgement}
-use Rattle.reader_judge.specs.declared.Judgement.TheVariants.{Refused, Good}
-use Rattle.reader_judge.specs.Met.{tree_told, verdict_of}
+use Rattle.reader_judge.specs.Met.{Refused, Good, tree_told, verdict_of}
 use Rattle.reader_render.specs.Rendered.{payload_text, Accepted}
 use Rattle.payload.specs.Answered.{Answered}
 use Rattle.reader_render.proofs.Payloads.{accepted-of, payload-text}
@@ -73,50 +76,46 @@ module _ (d s : List ℕ) (budget room : ℕ) where
       by true fa false fb false fc e = never e
       by true fa false fb true fc e = tree fa (rw (fa, fb, fc)) (tree_of d s budget) refl e
 
-abbrev accepting : ℕ → ℕ → Answer
-accepting n k = record { number = accepted; place = 0; count = n; length = k }
-
-alike : (n m k l : ℕ) → n ≡ m → k ≡ l → accepting n k ≡ accepting m l
+alike : (n m k l : ℕ) → n ≡ m → k ≡ l → told (Ok record { count = n; length = k }) ≡ told (Ok record { count = m; length = l })
 alike n m k l e f = rw (e, f)
 
 -- each return
-module _ (d s : List ℕ) (budget : ℕ) (old : List ℕ) (v : Judgement) (e : v ≡ verdict_of d s budget) where
-  spoke : (x : Outcome) → reads d s budget (length old) ≡ x → (r : Answer) (new : List ℕ) → r ≡ answer_of x → new ≡ contents_of x old → Answered (reads d s budget (length old)) old r new
+module _ (d s : List ℕ) (budget : ℕ) (old : List ℕ) where
+  abbrev Answers : Answer → List ℕ → Type 0
+  Answers r new = Answered (reads d s budget (length old)) old r new
+
+  spoke : (x : Outcome) → reads d s budget (length old) ≡ x → (r : Answer) (new : List ℕ) → r ≡ answer_of x → new ≡ contents_of x old → Answers r new
   spoke x f r new g h = record { answer = g ∙ ap answer_of (sym f); contents = h ∙ ap (λ (y : Outcome). contents_of y old) (sym f) }
 
-  pub read_denied : (k w : ℕ) (r : Answer) → v ≡ Refused k w → r ≡ answer_of (refusal k w) → Answered (reads d s budget (length old)) old r old
-  read_denied k w r f g = spoke (refusal k w) (denied d s budget (length old) k w (sym f ∙ e)) r old g refl
+  pub read_denied : (k : declared.Refused) → Refused (number_of k.refusal) k.place ≡ verdict_of d s budget → Answers (told (Err k)) old
+  read_denied k e = spoke (refusal (number_of k.refusal) k.place) (denied d s budget (length old) (number_of k.refusal) k.place e) (told (Err k)) old refl refl
 
-  module _ (n long : ℕ) (f : v ≡ Good n long) where
-    told : Told d s budget (length old) n long
-    told = granted d s budget (length old) n long (sym f ∙ e)
+  module _ (a : Done) (e : Good a.count a.length ≡ verdict_of d s budget) where
+    found : Told d s budget (length old) a.count a.length
+    found = granted d s budget (length old) a.count a.length e
 
-    fitting : (a b : Bool) → ltb (length old) long ≡ a → ltb text_most long ≡ b → reads d s budget (length old) ≡ choose (a || b) (λ _. refusal no_room 0) (λ _. result (root_text d told.tree) (root_count d told.tree))
-    fitting a b g h = let m = told.measures in told.answers ∙ rw (← m, g, h)
+    fitting : (a' b : Bool) → ltb (length old) a.length ≡ a' → ltb text_most a.length ≡ b → reads d s budget (length old) ≡ choose (a' || b) (λ _. refusal no_room 0) (λ _. result (root_text d found.tree) (root_count d found.tree))
+    fitting a' b g h = let m = found.measures in found.answers ∙ rw (← m, g, h)
 
-    pub read_small : (r : Answer) → length old < long → r ≡ answer_of (refusal no_room 0) → Answered (reads d s budget (length old)) old r old
-    read_small r h g = spoke (refusal no_room 0) (fitting true (ltb text_most long) (lt-ltb (length old) long h) refl) r old g refl
+    -- the text is longer than the buffer or than the limit
+    pub read_tight : (length old < a.length) ⊎ ((a.length ≤ length old) × (text_most < a.length)) → Answers (told (Err record { refusal = NoRoom; place = 0 })) old
+    read_tight (inl h) = spoke (refusal no_room 0) (fitting true (ltb text_most a.length) (lt-ltb (length old) a.length h) refl) _ old refl refl
+    read_tight (inr (h, g)) = spoke (refusal no_room 0) (fitting false true (le-ltb (length old) a.length h) (lt-ltb text_most a.length g)) _ old refl refl
 
-    module _ (h : long ≤ length old) where
-      pub read-long : (r : Answer) → text_most < long → r ≡ answer_of (refusal no_room 0) → Answered (reads d s budget (length old)) old r old
-      read-long r g i = spoke (refusal no_room 0) (fitting false true (le-ltb (length old) long h) (lt-ltb text_most long g)) r old i refl
+    pub read-accepted : Accepted d s
+    read-accepted = accepted-of d s budget found.end found.left found.tree found.found found.accepted
 
-      pub read-accepted : Accepted d s
-      read-accepted = accepted-of d s budget told.end told.left told.tree told.found told.accepted
-
+    module _ (h : a.length ≤ length old) where
       module _ (k : (i : ℕ) → Fits w8 (get_or s i 0)) where
-        text : payload_text d s ≡ root_text d told.tree
-        text = payload-text d s budget told.end told.left told.tree told.found (bytes-known s k)
+        text : payload_text d s ≡ root_text d found.tree
+        text = payload-text d s budget found.end found.left found.tree found.found (bytes-known s k)
 
         pub read-room : length (payload_text d s) ≤ length old
-        read-room = omega (arith, ap length text, told.measures)
+        read-room = omega (arith, ap length text, found.measures)
 
-        pub read-good : long ≤ text_most → (r : ℕ) (new : List ℕ) → Wrote old 0 (payload_text d s) r new → Answered (reads d s budget (length old)) old (record { number = accepted; place = 0; count = n; length = r }) new
+        pub read-good : a.length ≤ text_most → {r : ℕ} {new : List ℕ} → Wrote old 0 (payload_text d s) r new → Answers (told (Ok a)) new
         unfolding wrote
-        read-good g r new w =
-            let t = root_text d told.tree in
-            let a : r ≡ length t = w.place ∙ zero-add (length (payload_text d s)) ∙ ap length text in
-            let b : new ≡ t ++ drop (length t) old = w.left ∙ ap (sets old 0) text ∙ sets-eq t old 0 (omega (arith, told.measures)) ∙ ap (λ (i : ℕ). t ++ drop i old) (zero-add (length t)) in
-            spoke (result t (root_count d told.tree)) (fitting false false (le-ltb (length old) long h) (le-ltb text_most long g)) _ new (alike n (root_count d told.tree) r (length t) told.count a) b
-
-pub ruleset entries = (read_denied, read_small, read-long, read-accepted, read-room, read-good)
+        read-good g {r} {new} w =
+            let t = root_text d found.tree in
+            let b : new ≡ t ++ drop (length t) old = w.left ∙ ap (sets old 0) text ∙ sets-eq t old 0 (omega (arith, found.measures)) ∙ ap (λ (i : ℕ). t ++ drop i old) (zero-add (length t)) in
+            spoke (result t (root_count d found.tree)) (fitting false false (le-ltb (length old) a.length h) (le-ltb text_most a.length g)) _ new (alike a.count (root_count d found.tree) a.length (length t) found.count found.measures) b

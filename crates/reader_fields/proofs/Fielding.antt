@@ -1,98 +1,54 @@
--- S, F and L: what each return of `sequence_at`, `format_at` and `extent_at` has to show; and the checks of a tuple, put together from them.
+-- S, F and L: a format by its name is that by its number; and the checks of a tuple, put together from its fields.
 -- Assumes nothing.
---   number-met, form-met, part-met   the bounds of a field that is found
+--   format_is                        what `format_at` has to show
 --   asked-steps                      a tuple's checks are those of the fields in order
+--   number-met, form-met, part-met   the bounds of a field that is found
 use Prim.Native.Nat.{ℕ, ◌+◌, ◌-◌, ◌*◌, ◌/◌, ◌%◌, ◌^◌, ◌≤◌, ◌<◌}
 use mathlib.Core.Path.{◌≡◌, refl, sym, ap, ◌∙◌}
 use mathlib.Core.List.{List}
-use mathlib.Core.Bool.{Bool, true, false, not}
+use mathlib.Core.Bool.{Bool, true, false}
 use native.Mathlib.Omega.{arith}
 use lib.ListN.{length}
 use lib.Dec.{ltb, leb, eqb}
-use borrow.Author.Tests.{lt-ltb, le-ltb, lt-leb, le-leb, eq-eqb, ne_eqb, not-true, not-false}
+use borrow.Author.Tests.{lt-leb}
 use Rattle.paper.specs.Refusals.{past_end, not_known, given_twice, not_in_base, misfit, budget_spent}
 use Rattle.paper.specs.Checks.{choose, Judged, refuse, need}
-use Rattle.numbers.specs.declared.Found.{Found}
-use Rattle.numbers.specs.declared.Found.TheVariants.{Refused, Value}
 use Rattle.numbers.specs.Bytes.{byte}
-use Rattle.numbers.specs.Number.{number_at}
-use Rattle.numbers.specs.Met.{Widened, NumberMet}
-use Rattle.payload.specs.declared.Checked.{Checked}
-use Rattle.payload.specs.declared.Checked.TheVariants as checked
-use Rattle.payload.specs.Reading.{number, supported, asked}
-use Rattle.payload.proofs.Parts.{value-met, place-one, place_after, place_end, place-left}
-use Rattle.reader_fields.specs.Fields.{sequence_in, sequence_at, format_at, extent_in, extent_at, sequenced, formed, extended, NumberPlaced, SequenceMet, FormatMet, PartPlaced, ExtentMet}
-
--- S
-module _ (s : List ℕ) (at e l : ℕ) where
-  pub sequence-spent : l ≡ 0 → SequenceMet s at e l (Refused budget_spent)
-  unfolding sequence_at
-  sequence-spent h = record { same = sym (rw (eq-eqb l 0 h)); placed = tt }
-
-  module _ (some : l ≡ 0 → ⊥) (f : Found) (m : NumberMet s at e f) where
-    found : sequence_at s at e l ≡ sequence_in at f
-    unfolding sequence_at
-    found = rw (ne_eqb l 0 some, ← m.same)
-
-    pub sequence_fault : (k : ℕ) → f ≡ Refused k → SequenceMet s at e l (Refused k)
-    sequence_fault k g = record { same = sym (found ∙ ap (sequence_in at) g); placed = tt }
-
-    module _ (n w : ℕ) (g : f ≡ Value n w) where
-      pub sequence_selects : (n % 2 ≡ 0 → ⊥) → SequenceMet s at e l (Refused not_in_base)
-      sequence_selects x = record { same = sym (found ∙ ap (sequence_in at) g ∙ rw (ne_eqb (n % 2) 0 x)); placed = tt }
-
-      pub sequence-number : n % 2 ≡ 0 → SequenceMet s at e l (Value (n / 2) (at + 1 + w))
-      sequence-number x =
-          let v = value-met s at e n w f m g in
-          record {
-            same = sym (found ∙ ap (sequence_in at) g ∙ rw (eq-eqb (n % 2) 0 x));
-            placed = record { some = omega (arith, some); further = omega (arith, v.least); within = v.within };
-          }
-
-pub ruleset sequences = (place-one, place_after, sequence-spent, sequence_fault, sequence_selects, sequence-number)
+use Rattle.numbers.specs.Number.{Found, Refused, Value, number_at}
+use Rattle.dictionary.specs.declared.formats.Format.{Format}
+use Rattle.dictionary.specs.Formats.{boolean_form, form_named}
+use Rattle.dictionary.proofs.Forms.{named_form, named_none}
+use Rattle.std.specs.Prelude.{Option, Some, None, Result}
+use Rattle.std.specs.Option.{ok_or}
+use Rattle.paper.specs.declared.Refusal.{Refusal}
+use Rattle.paper.specs.declared.Refusal.TheVariants.{NotInBase}
+use Rattle.payload.specs.Checked.{Checked, format_checked}
+use Rattle.payload.specs.Checked as checked
+use Rattle.payload.specs.Reading.{number, supported, supported_format, asked}
+use Rattle.payload.proofs.Asked.{supported-is}
+use Rattle.reader_fields.specs.Fields.{sequence_in, sequence_at, format_at, extent_in, extent_at, sequenced, formed, extended, NumberPlaced, SequenceMet, FormatPlaced, FormatMet, PartPlaced, ExtentMet}
 
 -- F
-module _ (s : List ℕ) (p e : ℕ) where
-  pub format-past : e ≤ p → FormatMet s p e (checked.Refused past_end)
-  unfolding format_at
-  format-past h = record { same = sym (rw (le-leb e p h)); placed = tt }
+named : (x : ℕ) → format_checked (ok_or (supported_format x) NotInBase) ≡ choose (supported x) (λ _. checked.Good (x / 16)) (λ _. checked.Refused not_in_base)
+named x = by (supported x) (λ e. (supported-is x e).1.high)
+  where
+    form : (o : Option Format) → form_named (x / 16) ≡ o → x / 16 ≤ boolean_form → format_checked (ok_or o NotInBase) ≡ checked.Good (x / 16)
+    form (Some f) e h = ap checked.Good (sym (named_form (x / 16) f e))
+    form None e h = absurd (omega (arith, named_none (x / 16) e))
 
-  module _ (h : p < e) (x : ℕ) (w : Widened (byte s p) x) (t : Bool) (b : t ≡ supported x) where
-    told : supported (byte s p) ≡ t
-    told = sym (b ∙ ap supported w.same)
+    by : (t : Bool) → (t ≡ true → x / 16 ≤ boolean_form) → format_checked (ok_or (choose t (λ _. form_named (x / 16)) (λ _. None)) NotInBase) ≡ choose t (λ _. checked.Good (x / 16)) (λ _. checked.Refused not_in_base)
+    by true h = form (form_named (x / 16)) refl (h refl)
+    by false h = refl
 
-    pub format_outside : not t ≡ true → FormatMet s p e (checked.Refused not_in_base)
-    unfolding format_at
-    format_outside n = record { same = sym (rw (lt-leb e p h, told, not-true t n)); placed = tt }
-
-    pub format-is : not t ≡ false → FormatMet s p e (checked.Good (x / 16))
-    unfolding format_at
-    format-is n = record { same = sym (rw (lt-leb e p h, told, not-false t n, ← w.same)); placed = h }
-
-pub ruleset formats = (format-past, format_outside, format-is)
-
--- L
-module _ (s : List ℕ) (p e : ℕ) (f : Found) (m : NumberMet s p e f) where
-  given : extent_at s p e ≡ extent_in p e f
-  unfolding extent_at
-  given = rw (← m.same)
-
-  pub extent_fault : (k : ℕ) → f ≡ Refused k → ExtentMet s p e (Refused k)
-  extent_fault k g = record { same = sym (given ∙ ap (extent_in p e) g); placed = tt }
-
-  module _ (n w : ℕ) (g : f ≡ Value n w) where
-    pub extent_past : e - (p + 1 + w) < n → ExtentMet s p e (Refused past_end)
-    extent_past h = record { same = sym (given ∙ ap (extent_in p e) g ∙ rw (lt-ltb (e - (p + 1 + w)) n h)); placed = tt }
-
-    pub extent_part : n ≤ e - (p + 1 + w) → ExtentMet s p e (Value (p + 1 + w) (p + 1 + w + n))
-    extent_part h =
-        let v = value-met s p e n w f m g in
-        record {
-          same = sym (given ∙ ap (extent_in p e) g ∙ rw (le-ltb (e - (p + 1 + w)) n h));
-          placed = record { further = omega (arith, v.least); order = omega arith; within = omega (arith, v.within) };
-        }
-
-pub ruleset extents = (place-one, place_after, place_end, place-left, extent_fault, extent_past, extent_part)
+pub format_is : (s : List ℕ) (p e : ℕ) → p < e → (o : Option Format) → o ≡ supported_format (byte s p) → (r : Result Format Refusal) → r ≡ ok_or o NotInBase → FormatMet s p e (format_checked r)
+unfolding format_at
+format_is s p e h o f r g =
+    let z : format_checked r ≡ choose (supported (byte s p)) (λ _. checked.Good (byte s p / 16)) (λ _. checked.Refused not_in_base) = ap format_checked (g ∙ ap (λ (x : Option Format). ok_or x NotInBase) f) ∙ named (byte s p) in
+    record { same = z ∙ sym (rw (lt-leb e p h)); placed = placed (format_checked r) }
+  where
+    placed : (x : Checked) → FormatPlaced p e x
+    placed (checked.Refused k) = tt
+    placed (checked.Good f) = h
 
 -- the checks of `asked`, field by field
 module _ {A : Type 0} (s : List ℕ) (at e : ℕ) where

@@ -1,18 +1,21 @@
 -- Inside the code's contracts alone: nobody needs to believe this page.
 -- A tuple's fields S, F and L as the code takes them, one answer each: the checks of `asked` (crate payload, specs/Reading) in three parts.
 --   sequence_at, format_at, extent_at       what stands there, or the refusal's number
+--   sequence_found, extent_found         the code's form of it
 --   sequenced, formed, extended          goes on with it; its faults are given at the tuple's start
 --   SequenceMet, FormatMet, ExtentMet    the contracts
-use Rattle.std.specs.Prelude.{ℕ, ◌+◌, ◌-◌, ◌/◌, ◌%◌, ◌≤◌, ◌<◌, ◌≡◌, List, ltb, leb, eqb}
+use Rattle.std.specs.Prelude.{ℕ, ◌+◌, ◌-◌, ◌/◌, ◌%◌, ◌≤◌, ◌<◌, ◌≡◌, List, ltb, leb, eqb, Result, Ok, Err}
 use Rattle.paper.specs.Refusals.{past_end, not_in_base, budget_spent}
+use Rattle.paper.specs.declared.Refusal.{Refusal}
+use Rattle.paper.specs.Refusal.{number_of}
 use Rattle.paper.specs.Checks.{choose, Judged, refused}
-use Rattle.numbers.specs.declared.Found.{Found}
-use Rattle.numbers.specs.declared.Found.TheVariants.{Refused, Value}
 use Rattle.numbers.specs.Bytes.{byte}
-use Rattle.numbers.specs.Number.{number_at}
-use Rattle.payload.specs.declared.Checked.{Checked}
-use Rattle.payload.specs.declared.Checked.TheVariants as checked
+use Rattle.numbers.specs.Number.{Found, Refused, Value, number_at}
+use Rattle.payload.specs.Checked.{Checked}
+use Rattle.payload.specs.Checked as checked
 use Rattle.payload.specs.Reading.{supported}
+use Rattle.reader_fields.specs.declared.Sequence.{Sequence}
+use Rattle.reader_fields.specs.declared.Extent.{Extent}
 
 -- "budget; S; selector"
 abbrev pub sequence_in : ℕ → Found → Found
@@ -35,6 +38,14 @@ extent_in p e (Value len w) = choose (ltb (e - (p + 1 + w)) len) (λ _. Refused 
 
 unfoldable pub extent_at : List ℕ → ℕ → ℕ → Found
 extent_at s p e = extent_in p e (number_at s p e)
+
+abbrev pub sequence_found : Result Sequence Refusal → Found
+sequence_found (Err k) = Refused (number_of k)
+sequence_found (Ok x) = Value x.number x.next
+
+abbrev pub extent_found : Result Extent Refusal → Found
+extent_found (Err k) = Refused (number_of k)
+extent_found (Ok x) = Value x.from x.to
 
 abbrev pub sequenced : {A : Type 0} → Found → ℕ → (ℕ → ℕ → Judged A) → Judged A
 sequenced (Refused k) at go = refused k at

@@ -1,64 +1,60 @@
 // The value of a set or array.
 ghost use Rattle.reader_members.specs.Met.{Site};
-ghost use Rattle.reader_judge.specs.Met.{InsideMet};
+ghost use Rattle.reader_judge.specs.Met.{inner_told, InsideMet};
 
-use crate::Judgement;
-use numbers::{Found, number_at};
-use paper::{TOO_DEEP, VALUE_WRONG};
-use reader_members::member::{Member, member_at};
-use repeats::ROLL_BYTES;
+use crate::placed;
+use numbers::number_at;
+use paper::{Refusal, Refused};
+use reader_fields::Extent;
+use reader_members::member::{Body, member_at};
+use repeats::Roll;
 
-// The value of the set or array whose tuple begins at `at`, from `from` to `to`: a count and the tuples, which fill it.
+// What is let through: the budget left, and the length of the text between the brackets.
+#[derive(Clone, Copy, PartialEq, Eq)]
+pub struct Inner {
+    pub left: usize,
+    pub long: usize,
+}
+
+// The value of the set or array whose tuple begins at `at`: a count and the tuples, which fill it.
 pub fn inside(
     d: &[u8],
     s: &[u8],
     room: usize,
     row: usize,
     at: usize,
-    from: usize,
-    to: usize,
+    value: Extent,
     budget: usize,
-) -> Judgement
-    requires { Site d.now s.now row to }
-    ensures { InsideMet d.now s.now room row at from to budget result }
+) -> Result<Inner, Refused>
+    requires { Site d.now s.now row value.to }
+    ensures { InsideMet d.now s.now room row at value.from value.to budget (inner_told result) }
 {
     if room == 0 {
-        return Judgement::Refused(TOO_DEEP, at);
+        return Err(Refusal::TooDeep.at(at));
     }
-    match number_at(s, from, to) {
-        Found::Refused(k) => return Judgement::Refused(k, at),
-        Found::Value(count, w) => {
-            let mut bits = [0u8; ROLL_BYTES];
-            let mut pos = from + 1 + w;
-            let mut left = budget;
-            let mut long: usize = 0;
-            let mut i: usize = 0;
-            while i < count {
-                match member_at(d, s, row, i, &mut bits, pos, to, left) {
-                    Member::Refused(k) => return Judgement::Refused(k, pos),
-                    Member::Plain(next, t) => {
-                        pos = next;
-                        left -= 1;
-                        long += t;
-                        i += 1;
-                    }
-                    Member::Group(c, f, z, t) => {
-                        match inside(d, s, room - 1, c, pos, f, z, left - 1) {
-                            Judgement::Refused(k, p) => return Judgement::Refused(k, p),
-                            Judgement::Good(l, u) => {
-                                pos = z;
-                                left = l;
-                                long = long + t + u;
-                                i += 1;
-                            }
-                        }
-                    }
-                }
+    let count = placed(number_at(s, value.from, value.to), at)?;
+    let mut roll = Roll::new();
+    let mut pos = value.from + 1 + count.width;
+    let mut left = budget;
+    let mut long = 0;
+    for i in 0..count.value {
+        let member = placed(member_at(d, s, row, i, &mut roll, pos, value.to, left), pos)?;
+        match member.body {
+            Body::Plain { next, long: word } => {
+                pos = next;
+                left -= 1;
+                long += member.front + word;
             }
-            if pos != to {
-                return Judgement::Refused(VALUE_WRONG, at);
+            Body::Group(part) => {
+                let inner = inside(d, s, room - 1, member.row, pos, part, left - 1)?;
+                pos = part.to;
+                left = inner.left;
+                long += member.front + 2 + inner.long;
             }
-            return Judgement::Good(left, long);
         }
     }
+    if pos != value.to {
+        return Err(Refusal::ValueWrong.at(at));
+    }
+    Ok(Inner { left, long })
 }

@@ -1,31 +1,31 @@
 -- A tuple: what each return of `member_at` has to show.
 -- Assumes nothing.
-use Prim.Native.Nat.{ℕ, ◌+◌, ◌-◌, ◌^◌, ◌≤◌, ◌<◌}
+use Prim.Native.Nat.{ℕ, ◌-◌}
 use mathlib.Core.Path.{◌≡◌, refl, sym, ap, ◌∙◌}
 use mathlib.Core.List.{List}
 use mathlib.Core.Bool.{Bool, true, false}
 use native.Mathlib.Omega.{arith}
 use lib.ListN.{length}
-use Rattle.paper.specs.Limits.{payload_most}
+use Rattle.std.specs.Prelude.{Ok, Err}
+use Rattle.paper.specs.declared.Refusal.{Refusal}
+use Rattle.paper.specs.Refusal.{number_of}
 use Rattle.paper.specs.Refusals.{not_known, given_twice}
 use Rattle.paper.specs.Checks.{Judged, refused, need}
-use Rattle.numbers.specs.declared.Found.{Found}
-use Rattle.numbers.specs.declared.Found.TheVariants as found
-use Rattle.dictionary.specs.Rows.{entries}
-use Rattle.dictionary.specs.Given.{Row}
-use Rattle.payload.specs.declared.Checked.{Checked}
-use Rattle.payload.specs.declared.Checked.TheVariants as checked
-use Rattle.payload.specs.Fits.{GroupRow, known, child, fresh, fits}
+use Rattle.numbers.specs.Number.{Found}
+use Rattle.numbers.specs.Number as found
+use Rattle.payload.specs.Checked.{Checked}
+use Rattle.payload.specs.Checked as checked
+use Rattle.payload.specs.Fits.{known, child, fresh, fits}
 use Rattle.payload.specs.Text.{word}
 use Rattle.payload.specs.Reading.{Single, body_at, tuple_at}
 use Rattle.payload.proofs.Asked.{tuple_asked}
 use Rattle.repeats.specs.Roll.{Kept}
 use Rattle.reader_fields.specs.Fields.{sequence_at, sequenced, NumberPlaced, SequenceMet}
-use Rattle.reader_fields.proofs.Fielding.{number-met, asked-steps}
+use Rattle.reader_fields.proofs.Fielding.{asked-steps}
 use Rattle.reader_members.specs.declared.member.Body.{Body}
 use Rattle.reader_members.specs.declared.member.Body.TheVariants as body
-use Rattle.reader_members.specs.declared.member.Member.TheVariants as member
-use Rattle.reader_members.specs.Met.{Site, seat_of, Seating, SeatMet, FrontMet, Inner, rest_at, BodyMet, MemberMet}
+use Rattle.reader_fields.specs.declared.Extent.{Extent}
+use Rattle.reader_members.specs.Met.{seat_of, SeatMet, FrontMet, Inner, rest_at, Wording, Housing, BodyMet, MemberMet}
 
 -- what follows S in the i-th tuple of a row's value
 module _ (d s : List ℕ) (inner : Inner) (row i : ℕ) (seen : List ℕ) (at e l : ℕ) where
@@ -49,134 +49,90 @@ seat_takes true true c c' at x e = (cc, refl)
 seat_takes true false c c' at x e = absurd (let z : ◌≡◌ {A = ℕ} 0 1 = cc in omega arith)
 seat_takes false b c c' at x e = absurd (let z : ◌≡◌ {A = ℕ} 0 1 = cc in omega arith)
 
--- what the functions that are called ask
-module _ (d s : List ℕ) (row e : ℕ) (w : Site d s row e) where
-  pub site_within : e ≤ length s
-  site_within = w.within
-
-  pub site-holder : GroupRow d row
-  site-holder = w.holder
-
-  pub site-row : Row d row
-  site-row = record { accepted = w.holder.accepted; inside = w.holder.inside }
-
-  pub site-few : length s ≤ payload_most
-  site-few = w.few
-
-  pub site-child : (i n c : ℕ) (bits bits' : List ℕ) (T : Checked) → SeatMet d row i n bits T bits' → T ≡ checked.Good c → Row d c
-  site-child i n c bits bits' T m g = record { accepted = w.holder.accepted; inside = taken (rw g at m) }
-    where
-      taken : SeatMet d row i n bits (checked.Good c) bits' → c < entries d
-      taken m = m.inside
-
-  module _ (p c : ℕ) (B : Body) (v : BodyMet d s c p e B) (i q : ℕ) (u : FrontMet d row i c q) where
-    pub member-fits : (next long : ℕ) → B ≡ body.Plain next long → q + long < 2 ^ 64
-    member-fits next long g = by (rw g at v)
-      where
-        by : BodyMet d s c p e (body.Plain next long) → q + long < 2 ^ 64
-        by v = omega (arith, v.met.short, v.met.within, w.within, w.few, u.few)
-
-pub group-fits : (d : List ℕ) (row i c q : ℕ) → FrontMet d row i c q → q + 2 < 2 ^ 64
-group-fits d row i c q u = omega (arith, u.few)
-
-module _ (d s : List ℕ) (row i : ℕ) (bits : List ℕ) (at e l : ℕ) (S : Found) (m : SequenceMet s at e l S) where
-  pub member-sequence : (k : ℕ) → S ≡ found.Refused k → MemberMet d s row i bits at e l (member.Refused k) bits
-  member-sequence k g =
+module _ (d s : List ℕ) (row i : ℕ) (bits : List ℕ) (at e l : ℕ) where
+  pub member-sequence : {k : Refusal} → SequenceMet s at e l (found.Refused (number_of k)) → MemberMet d s row i bits at e l (Err k) bits
+  member-sequence m =
       record {
         placed = tt;
-        told = λ seen kept. record { told = λ inner. tuple_steps d s inner row i seen at e l ∙ rw (← m.same, g) };
+        told = λ seen kept. record { told = λ inner. tuple_steps d s inner row i seen at e l ∙ rw (← m.same) };
       }
 
-  module _ (n p : ℕ) (g : S ≡ found.Value n p) where
+  module _ (n p : ℕ) (m : SequenceMet s at e l (found.Value n p)) (bits' : List ℕ) where
     begun : (inner : Inner) (seen : List ℕ) → tuple_at d s inner row i seen at e l ≡ Seatings d s inner row i seen at e l n p
-    begun inner seen = tuple_steps d s inner row i seen at e l ∙ rw (← m.same, g)
+    begun inner seen = tuple_steps d s inner row i seen at e l ∙ rw (← m.same)
 
     placing : NumberPlaced at e l p
-    placing = number-met s at e l n p S m g
+    placing = m.placed
 
-    module _ (bits' : List ℕ) (T : Checked) (v : SeatMet d row i n bits T bits') where
-      pub member_seat : (k : ℕ) → T ≡ checked.Refused k → MemberMet d s row i bits at e l (member.Refused k) bits'
-      member_seat k x =
-          record {
-            placed = tt;
-            told = λ seen kept. record { told = λ inner. begun inner seen ∙ seat_refuses (known d row i n) (fresh d row seen n) (child d row n) k at _ (sym x ∙ (v.told seen kept).same) };
-          }
+    pub member_seat : {k : Refusal} → SeatMet d row i n bits (checked.Refused (number_of k)) bits' → MemberMet d s row i bits at e l (Err k) bits'
+    member_seat {k} v =
+        record {
+          placed = tt;
+          told = λ seen kept. record { told = λ inner. begun inner seen ∙ seat_refuses (known d row i n) (fresh d row seen n) (child d row n) (number_of k) at _ (v.told seen kept).same };
+        }
 
-      module _ (c : ℕ) (x : T ≡ checked.Good c) where
-        seating : (seen : List ℕ) → Kept d row seen bits → Seating d row i seen n (checked.Good c) bits'
-        seating seen kept = (rw x at v).told seen kept
+    module _ (c : ℕ) (v : SeatMet d row i n bits (checked.Good c) bits') where
+      module _ (seen : List ℕ) (kept : Kept d row seen bits) where
+        is_child : c ≡ child d row n
+        is_child = (seat_takes {A = Single} (known d row i n) (fresh d row seen n) c (child d row n) at (refused 0 0) (v.told seen kept).same).0
 
-        module _ (seen : List ℕ) (kept : Kept d row seen bits) where
-          is_child : c ≡ child d row n
-          is_child = (seat_takes {A = Single} (known d row i n) (fresh d row seen n) c (child d row n) at (refused 0 0) (seating seen kept).same).0
+        seated : (inner : Inner) → tuple_at d s inner row i seen at e l ≡ rest_at d s inner n c at p e (l - 1)
+        seated inner =
+            begun inner seen
+            ∙ (seat_takes (known d row i n) (fresh d row seen n) c (child d row n) at _ (v.told seen kept).same).1
+            ∙ ap (λ (r : ℕ). rest_at d s inner n r at p e (l - 1)) (sym is_child)
 
-          seated : (inner : Inner) → tuple_at d s inner row i seen at e l ≡ rest_at d s inner n c at p e (l - 1)
-          seated inner =
-              begun inner seen
-              ∙ (seat_takes (known d row i n) (fresh d row seen n) c (child d row n) at _ (seating seen kept).same).1
-              ∙ ap (λ (r : ℕ). rest_at d s inner n r at p e (l - 1)) (sym is_child)
+      pub member-body : {k : Refusal} → BodyMet d s c p e (Err k) → MemberMet d s row i bits at e l (Err k) bits'
+      member-body y = record { placed = tt; told = λ seen kept. record { told = λ inner. seated seen kept inner ∙ y.met.told inner n at (l - 1) } }
 
-        module _ (B : Body) (y : BodyMet d s c p e B) where
-          pub member-body : (k : ℕ) → B ≡ body.Refused k → MemberMet d s row i bits at e l (member.Refused k) bits'
-          member-body k h = by (rw h at y)
-            where
-              by : BodyMet d s c p e (body.Refused k) → MemberMet d s row i bits at e l (member.Refused k) bits'
-              by y = record { placed = tt; told = λ seen kept. record { told = λ inner. seated seen kept inner ∙ y.met.told inner n at (l - 1) } }
+      module _ (q : ℕ) (u : FrontMet d row i c q) where
+        plain : (next long : ℕ) → Wording d s c p e next long → MemberMet d s row i bits at e l (Ok record { row = c; front = q; body = body.Plain next long }) bits'
+        plain next long a =
+            record {
+              placed =
+                  record {
+                    some = placing.some;
+                    short = omega (arith, u.few, a.short, a.further, placing.further);
+                    further = omega (arith, a.further, placing.further);
+                    within = a.within;
+                  };
+              told =
+                  λ seen kept.
+                  let z = is_child seen kept in
+                  record {
+                    number = n;
+                    value = a.value;
+                    told = λ inner. seated seen kept inner ∙ a.told inner n at (l - 1);
+                    kept = (v.told seen kept).kept;
+                    length_of = omega (arith, u.same n (sym z), a.length_of, ap (λ (r : ℕ). length (word d r a.value)) z);
+                  };
+            }
 
-          module _ (q : ℕ) (u : FrontMet d row i c q) where
-            pub member-plain : (next long : ℕ) → B ≡ body.Plain next long → MemberMet d s row i bits at e l (member.Plain next (q + long)) bits'
-            member-plain next long h = by (rw h at y)
-              where
-                by : BodyMet d s c p e (body.Plain next long) → MemberMet d s row i bits at e l (member.Plain next (q + long)) bits'
-                by y =
-                    let a = y.met in
-                    record {
-                      placed =
-                          record {
-                            some = placing.some;
-                            short = omega (arith, u.few, a.short, a.further, placing.further);
-                            further = omega (arith, a.further, placing.further);
-                            within = a.within;
-                          };
-                      told =
-                          λ seen kept.
-                          let z = is_child seen kept in
-                          record {
-                            number = n;
-                            value = a.value;
-                            told = λ inner. seated seen kept inner ∙ a.told inner n at (l - 1);
-                            kept = (seating seen kept).kept;
-                            length_of = omega (arith, u.same n (sym z), a.length_of, ap (λ (r : ℕ). length (word d r a.value)) z);
-                          };
-                    }
+        group : (V : Extent) → Housing d s c p e V.from V.to → MemberMet d s row i bits at e l (Ok record { row = c; front = q; body = body.Group V }) bits'
+        group V a =
+            record {
+              placed =
+                  record {
+                    some = placing.some;
+                    short = omega (arith, u.few, a.further, placing.further);
+                    holds = a.holds;
+                    inside = v.inside;
+                    order = a.order;
+                    within = a.within;
+                  };
+              told =
+                  λ seen kept.
+                  let z = is_child seen kept in
+                  record {
+                    number = n;
+                    format = a.format;
+                    told = λ inner. seated seen kept inner ∙ a.told inner n at (l - 1);
+                    kept = (v.told seen kept).kept;
+                    is_child = z;
+                    length_of = omega (arith, u.same n (sym z));
+                  };
+            }
 
-            pub member-group : (from to : ℕ) → B ≡ body.Group from to → MemberMet d s row i bits at e l (member.Group c from to (q + 2)) bits'
-            member-group from to h = by (rw h at y) (rw x at v)
-              where
-                by : BodyMet d s c p e (body.Group from to) → SeatMet d row i n bits (checked.Good c) bits' → MemberMet d s row i bits at e l (member.Group c from to (q + 2)) bits'
-                by y v' =
-                    let a = y.met in
-                    record {
-                      placed =
-                          record {
-                            some = placing.some;
-                            short = omega (arith, u.few, a.further, placing.further);
-                            holds = a.holds;
-                            inside = v'.inside;
-                            order = a.order;
-                            within = a.within;
-                          };
-                      told =
-                          λ seen kept.
-                          let z = is_child seen kept in
-                          record {
-                            number = n;
-                            format = a.format;
-                            told = λ inner. seated seen kept inner ∙ a.told inner n at (l - 1);
-                            kept = (seating seen kept).kept;
-                            is_child = z;
-                            length_of = omega (arith, u.same n (sym z));
-                          };
-                    }
-
-pub ruleset members = (site_within, site-holder, site-row, site-few, site-child, member-fits, group-fits, member-sequence, member_seat, member-body, member-plain, member-group)
+        pub member-good : (B : Body) → BodyMet d s c p e (Ok B) → MemberMet d s row i bits at e l (Ok record { row = c; front = q; body = B }) bits'
+        member-good (body.Plain next long) y = plain next long y.met
+        member-good (body.Group V) y = group V y.met

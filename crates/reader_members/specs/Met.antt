@@ -5,13 +5,15 @@
 --   FrontMet             what stands before a member's value
 --   rest_at, BodyMet      a tuple from its F on
 --   MemberMet            a tuple
-use Rattle.std.specs.Prelude.{ℕ, ◌+◌, ◌-◌, ◌*◌, ◌≤◌, ◌<◌, ◌≡◌, List, ◌∷◌, Bool, length}
+use Rattle.std.specs.Prelude.{ℕ, ◌+◌, ◌-◌, ◌*◌, ◌≤◌, ◌<◌, ◌≡◌, List, ◌∷◌, Bool, length, Result, Ok, Err}
 use Rattle.paper.specs.Limits.{payload_most}
 use Rattle.paper.specs.Refusals.{not_known, given_twice, misfit}
+use Rattle.paper.specs.declared.Refusal.{Refusal}
+use Rattle.paper.specs.Refusal.{number_of}
 use Rattle.paper.specs.Checks.{choose, Judged, refused, good, need, after}
 use Rattle.dictionary.specs.Rows.{entries, kind}
-use Rattle.payload.specs.declared.Checked.{Checked}
-use Rattle.payload.specs.declared.Checked.TheVariants as checked
+use Rattle.payload.specs.Checked.{Checked}
+use Rattle.payload.specs.Checked as checked
 use Rattle.payload.specs.Tree.{Scalar, Tuples}
 use Rattle.payload.specs.Fits.{GroupRow, known, child, fresh, fits}
 use Rattle.payload.specs.Text.{word, label, comma_at}
@@ -21,7 +23,6 @@ use Rattle.reader_fields.specs.Fields.{format_at, extent_at, formed, extended}
 use Rattle.reader_members.specs.declared.member.Body.{Body}
 use Rattle.reader_members.specs.declared.member.Body.TheVariants as body
 use Rattle.reader_members.specs.declared.member.Member.{Member}
-use Rattle.reader_members.specs.declared.member.Member.TheVariants as member
 
 pub record Site (d s : List ℕ) (row to : ℕ) : Type 0 where
   pub holder : GroupRow d row
@@ -88,12 +89,15 @@ module _ (d s : List ℕ) where
       pub order : from ≤ to
       pub within : to ≤ e
 
-    abbrev pub Bodied : Body → Type 0
-    Bodied (body.Refused k) = Restless k
-    Bodied (body.Plain next long) = Wording next long
-    Bodied (body.Group from to) = Housing from to
+    abbrev pub Holding : Body → Type 0
+    Holding (body.Plain next long) = Wording next long
+    Holding (body.Group v) = Housing v.from v.to
 
-    pub record BodyMet (b : Body) : Type 0 where
+    abbrev pub Bodied : Result Body Refusal → Type 0
+    Bodied (Err k) = Restless (number_of k)
+    Bodied (Ok b) = Holding b
+
+    pub record BodyMet (b : Result Body Refusal) : Type 0 where
       pub met : Bodied b
 
   module _ (row i : ℕ) (seen : List ℕ) (at e l : ℕ) where
@@ -115,10 +119,13 @@ module _ (d s : List ℕ) where
       pub is_child : c ≡ child d row number
       pub length_of : long ≡ length (comma_at i) + length (label d row number) + 2
 
-    abbrev pub Membering : Member → List ℕ → Type 0
-    Membering (member.Refused k) bits = Refusing k
-    Membering (member.Plain next long) bits = Plainly next long bits
-    Membering (member.Group c from to long) bits = Grouping c from to long bits
+    abbrev pub Taking : ℕ → ℕ → Body → List ℕ → Type 0
+    Taking c front (body.Plain next long) bits = Plainly next (front + long) bits
+    Taking c front (body.Group v) bits = Grouping c v.from v.to (front + 2) bits
+
+    abbrev pub Membering : Result Member Refusal → List ℕ → Type 0
+    Membering (Err k) bits = Refusing (number_of k)
+    Membering (Ok m) bits = Taking m.row m.front m.body bits
 
 pub record PlainPlaced (at e l next long : ℕ) : Type 0 where
   pub some : 1 ≤ l
@@ -134,11 +141,14 @@ pub record GroupPlaced (d : List ℕ) (at e l c from to long : ℕ) : Type 0 whe
   pub order : from ≤ to
   pub within : to ≤ e
 
-abbrev pub MemberPlaced : List ℕ → ℕ → ℕ → ℕ → Member → Type 0
-MemberPlaced d at e l (member.Refused k) = Unit {0}
-MemberPlaced d at e l (member.Plain next long) = PlainPlaced at e l next long
-MemberPlaced d at e l (member.Group c from to long) = GroupPlaced d at e l c from to long
+abbrev pub BodyPlaced : List ℕ → ℕ → ℕ → ℕ → ℕ → ℕ → Body → Type 0
+BodyPlaced d at e l c front (body.Plain next long) = PlainPlaced at e l next (front + long)
+BodyPlaced d at e l c front (body.Group v) = GroupPlaced d at e l c v.from v.to (front + 2)
 
-pub record MemberMet (d s : List ℕ) (row i : ℕ) (bits : List ℕ) (at e l : ℕ) (r : Member) (bits' : List ℕ) : Type 0 where
+abbrev pub MemberPlaced : List ℕ → ℕ → ℕ → ℕ → Result Member Refusal → Type 0
+MemberPlaced d at e l (Err k) = Unit {0}
+MemberPlaced d at e l (Ok m) = BodyPlaced d at e l m.row m.front m.body
+
+pub record MemberMet (d s : List ℕ) (row i : ℕ) (bits : List ℕ) (at e l : ℕ) (r : Result Member Refusal) (bits' : List ℕ) : Type 0 where
   pub placed : MemberPlaced d at e l r
   pub told : (seen : List ℕ) → Kept d row seen bits → Membering d s row i seen at e l r bits'

@@ -1,38 +1,31 @@
 // A tuple in the value of a set or array: its fields, its child and a scalar's value.
 ghost use Rattle.std.specs.Prelude.{◌≡◌, ◌≤◌, length};
-ghost use Rattle.paper.specs.Limits.{payload_most};
 ghost use Rattle.dictionary.specs.Given.{Row};
 ghost use Rattle.payload.specs.Text.{comma_at};
-ghost use Rattle.repeats.specs.Roll.{roll_bytes};
 ghost use Rattle.reader_members.specs.Met.{Site, FrontMet, BodyMet, MemberMet};
 
-use crate::seat::seat_at;
+use crate::seat::{is_set, seat_at};
 use dictionary::children::name_long;
-use dictionary::formats::{ARRAY, SET};
-use dictionary::rows::format_nibble;
-use numbers::Found;
-use paper::MISFIT;
-use payload::Checked;
+use dictionary::formats::Format;
+use paper::Refusal;
 use payload::formats::fits;
-use reader_fields::{extent_at, format_at, sequence_at};
+use reader_fields::{Extent, extent_at, format_at, sequence_at};
 use reader_values::word_at;
-use repeats::ROLL_BYTES;
+use repeats::Roll;
 
-// A tuple from its F on: a refusal's number; a scalar's end and the length of its text; or the value of a set or array, from and to.
-#[derive(Clone, Copy)]
+// A tuple from its F on: a scalar, with its end and the length of its text; or where the value of a set or array stands.
+#[derive(Clone, Copy, PartialEq, Eq)]
 pub enum Body {
-    Refused(u8),
-    Plain(usize, usize),
-    Group(usize, usize),
+    Plain { next: usize, long: usize },
+    Group(Extent),
 }
 
-// A tuple: a refusal's number; a scalar's end and the length of its text, name and comma included; or a set's or array's row, its value,
-// from and to, and the length of its text without what stands between its brackets.
-#[derive(Clone, Copy)]
-pub enum Member {
-    Refused(u8),
-    Plain(usize, usize),
-    Group(usize, usize, usize, usize),
+// A tuple: its row, the length of what stands before its value's text, and what it holds.
+#[derive(Clone, Copy, PartialEq, Eq)]
+pub struct Member {
+    pub row: usize,
+    pub front: usize,
+    pub body: Body,
 }
 
 fn comma_long(i: usize) -> usize
@@ -47,36 +40,32 @@ fn front_long(d: &[u8], row: usize, i: usize, c: usize) -> usize
     requires child { Row d.now c }
     ensures { FrontMet d.now row i c result }
 {
-    if format_nibble(d, row) != SET {
-        return comma_long(i);
+    if is_set(d, row) {
+        comma_long(i) + name_long(d, c) + 3
+    } else {
+        comma_long(i)
     }
-    comma_long(i) + name_long(d, c) + 3
 }
 
 // "deferred bit and format supported; format fits the row; L; room in the enclosing value", and a scalar's value.
-fn body_at(d: &[u8], s: &[u8], row: usize, at: usize, end: usize) -> Body
+fn body_at(d: &[u8], s: &[u8], row: usize, at: usize, end: usize) -> Result<Body, Refusal>
     requires row { Row d.now row }
-    requires inside { (end ≤ length s.now) × (length s.now ≤ payload_most) }
+    requires inside { end ≤ length s.now }
     ensures { BodyMet d.now s.now row at end result }
 {
-    match format_at(s, at, end) {
-        Checked::Refused(k) => return Body::Refused(k),
-        Checked::Good(f) => {
-            if !fits(d, row, f) {
-                return Body::Refused(MISFIT);
-            }
-            match extent_at(s, at + 1, end) {
-                Found::Refused(k) => return Body::Refused(k),
-                Found::Value(from, to) => {
-                    if f <= ARRAY {
-                        return Body::Group(from, to);
-                    }
-                    match word_at(d, s, row, f, from, to) {
-                        Checked::Refused(k) => return Body::Refused(k),
-                        Checked::Good(n) => return Body::Plain(to, n),
-                    }
-                }
-            }
+    let format = format_at(s, at, end)?;
+    if !fits(d, row, format.number()) {
+        return Err(Refusal::Misfit);
+    }
+    let value = extent_at(s, at + 1, end)?;
+    match format {
+        Format::Set | Format::Array => Ok(Body::Group(value)),
+        _ => {
+            let long = word_at(d, row, format, &s[value.from..value.to])?;
+            Ok(Body::Plain {
+                next: value.to,
+                long,
+            })
         }
     }
 }
@@ -87,27 +76,20 @@ pub fn member_at(
     s: &[u8],
     row: usize,
     i: usize,
-    bits: &mut [u8; ROLL_BYTES],
+    roll: &mut Roll,
     at: usize,
     end: usize,
     left: usize,
-) -> Member
-    requires site { Site d.now s.now row end }
-    requires bits_len { length bits.old ≡ roll_bytes }
-    ensures { MemberMet d.now s.now row i bits.old at end left result bits.new }
+) -> Result<Member, Refusal>
+    requires { Site d.now s.now row end }
+    ensures { MemberMet d.now s.now row i roll.old at end left result roll.new }
 {
-    match sequence_at(s, at, end, left) {
-        Found::Refused(k) => return Member::Refused(k),
-        Found::Value(n, p) => match seat_at(d, row, i, n, bits) {
-            Checked::Refused(k) => return Member::Refused(k),
-            Checked::Good(c) => {
-                let front = front_long(d, row, i, c);
-                match body_at(d, s, c, p, end) {
-                    Body::Refused(k) => return Member::Refused(k),
-                    Body::Plain(next, long) => return Member::Plain(next, front + long),
-                    Body::Group(from, to) => return Member::Group(c, from, to, front + 2),
-                }
-            }
-        },
-    }
+    let sequence = sequence_at(s, at, end, left)?;
+    let child = seat_at(d, row, i, sequence.number, roll)?;
+    let body = body_at(d, s, child, sequence.next, end)?;
+    Ok(Member {
+        row: child,
+        front: front_long(d, row, i, child),
+        body,
+    })
 }

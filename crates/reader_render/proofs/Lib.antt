@@ -1,8 +1,6 @@
--- The laws behind the second pass.
 pub mod Copying
-pub mod Wording
 pub mod Parting
-pub mod Membering
-pub mod Inside
+pub mod Members
+pub mod Wording
 pub mod Printing
 pub mod Payloads

@@ -3,40 +3,38 @@
 --   tree_again        a budget of as many tuples as there are bytes finds the same tree
 --   payload-text      so the text is that of any tree that the answers find
 --   accepted-of       and a payload with a tree may be written
---   payload_rules     of `render_payload`
+--   root-..           the calls of `render_payload`
 use mathlib.Core.Path.{◌≡◌, sym, ap, ◌∙◌}
 use mathlib.Core.List.{List}
 use mathlib.Core.Bool.{true}
 use Prim.Native.Nat.{ℕ, ◌+◌, ◌-◌, ◌≤◌}
 use native.Mathlib.Omega.{arith}
-use lib.ListN.{length, get_or}
+use lib.ListN.{length, get_or, take, drop}
+use lib.Seq.{slice}
 use lib.Dec.{eqb}
 use borrow.Author.Tests.{eqb-true, eq-eqb}
 use mir.Syntax.{w8}
 use mir.Val.{Fits}
-use Rattle.paper.specs.Limits.{payload_least, depth_most}
+use Rattle.paper.specs.Limits.{payload_least}
 use Rattle.paper.specs.Checks.{good}
 use Rattle.numbers.specs.Bytes.{Bytes}
-use Rattle.numbers.specs.Met.{Wrote}
-use Rattle.numbers.proofs.Places.{bytes-known}
-use Rattle.numbers.proofs.Writing.{renamed, as_long}
+use Rattle.numbers.specs.Number.{Number}
+use Rattle.numbers.proofs.Places.{bytes-known, slice-take}
 use Rattle.dictionary.specs.Formats.{set_form}
-use Rattle.dictionary.specs.Rows.{kind}
 use Rattle.dictionary.specs.Accepts.{accepts}
 use Rattle.dictionary.proofs.Laws.{accepted_header}
-use Rattle.payload.specs.Tree.{Tuples}
-use Rattle.payload.specs.Fits.{GroupRow}
+use Rattle.payload.specs.Tree.{Tuples, size}
+use Rattle.payload.specs.Writes.{Cut, Writes}
 use Rattle.payload.specs.Text.{text_of, root_text, root_count}
-use Rattle.payload.specs.Reading.{shape_of, inside_of, root_at, tree_of}
+use Rattle.payload.specs.Reading.{shape_of, root_at, tree_of}
 use Rattle.payload.proofs.Lying.{lies-end}
 use Rattle.paper.proofs.Checks.{same_place, needed, followed}
-use Rattle.payload.proofs.Asked.{root-asked}
 use Rattle.payload.proofs.Root.{Rooted, root_complete, root-sound}
 use Rattle.payload.proofs.Longest.{count-few, tuple_size, cut_size}
 use Rattle.reader_render.specs.declared.tuple.Parts.{Parts}
-use Rattle.reader_render.specs.Rendered.{from_of, to_of, Framed, PartsMet, bracketed, shown, AcceptedIn, payload_text, Accepted}
-use Rattle.reader_render.proofs.Parting.{Opening, asked-opened}
-use Rattle.reader_render.proofs.Inside.{whole_of, shown_of}
+use Rattle.reader_render.specs.Rendered.{from_of, Framed, PartsMet, bracketed, shown, AcceptedIn, payload_text, Accepted}
+use Rattle.reader_render.proofs.Parting.{Parted, parted}
+use Rattle.reader_render.proofs.Members.{shown_is}
 
 module _ (d s : List ℕ) (budget z l : ℕ) (t : Tuples) (y : tree_of d s budget ≡ good z l t) where
   record Root : Type 0 where
@@ -74,42 +72,50 @@ module _ (d s : List ℕ) (budget z l : ℕ) (t : Tuples) (y : tree_of d s budge
   pub accepted-of : accepts d ≡ true → Accepted d s
   accepted-of ok = record { accepted = ok; budget = budget; end = z; left = l; tree = t; found = y }
 
-  opening : Opening s (λ n. eqb n 0) (λ n. true) (λ n f. eqb f set_form) (λ n f q z. inside_of d s depth_most 0 payload_least q z (budget - 1)) payload_least (length s) budget z l t
-  opening = asked-opened s (λ n. eqb n 0) (λ n. true) (λ n f. eqb f set_form) (λ n f q z. inside_of d s depth_most 0 payload_least q z (budget - 1)) payload_least (length s) budget z l t (omega arith) (sym (root-asked d s budget) ∙ root-of.root)
-
 -- the root's tuple, and its value
-module _ (d s : List ℕ) (k : (i : ℕ) → Fits w8 (get_or s i 0)) (h : Accepted d s) where
-  open-root : Opening s (λ n. eqb n 0) (λ n. true) (λ n f. eqb f set_form) (λ n f q z. inside_of d s depth_most 0 payload_least q z (h.budget - 1)) payload_least (length s) h.budget h.end h.left h.tree
-  open-root = opening d s h.budget h.end h.left h.tree h.found
+module _ {d s : List ℕ} (k : (i : ℕ) → Fits w8 (get_or s i 0)) (h : Accepted d s) where
+  root : Rooted d s h.budget h.end h.left h.tree
+  root = rooted d s h.budget h.end h.left h.tree h.found (bytes-known s k)
 
-  pub root-headed : Framed s payload_least
-  root-headed = open-root.headed
+  abbrev V : List ℕ
+  V = root.root.rest.rest.value
 
-  set-row : kind d 0 ≡ set_form
-  set-row = (accepted_header d h.accepted).root
+  parts : Parted s payload_least h.end 0 set_form V
+  parts = parted s root.body (Cut (Number (size h.tree)) (Writes h.tree)) payload_least h.end 0 set_form root.lies root.root
 
-  root-row : GroupRow d 0
-  root-row = let x = accepted_header d h.accepted in record { accepted = h.accepted; inside = omega (arith, x.some); holds = omega (arith, x.root) }
+  pub root-framed : Framed s payload_least
+  root-framed = parts.framed
 
-  root-shown : shown d s depth_most 0 (from_of s payload_least) (to_of s payload_least) ≡ payload_text d s
-  root-shown =
-      shown_of d s (bytes-known s k) depth_most 0 payload_least (from_of s payload_least) (to_of s payload_least) (h.budget - 1) h.end h.left h.tree root-row open-root.within open-root.judged
-      ∙ ap (λ (g : ℕ). bracketed (shape_of g) (text_of d h.tree 0 0)) set-row
+  abbrev value-in : AcceptedIn d 0 V
+  value-in =
+      let x = accepted_header d h.accepted in
+      record { holder = record { accepted = h.accepted; inside = omega (arith, x.some); holds = omega (arith, x.root) }; tree = h.tree; written = root.root.rest.rest.here; fitting = root.fitting }
+
+  text-is : shown d 0 V ≡ payload_text d s
+  text-is =
+      shown_is d 0 V value-in
+      ∙ ap (λ (g : ℕ). bracketed (shape_of g) (text_of d h.tree 0 0)) (accepted_header d h.accepted).root
       ∙ sym (payload-text d s h.budget h.end h.left h.tree h.found (bytes-known s k))
 
-  module _ (t : Parts) (p : PartsMet s payload_least t) where
-    pub root-whole : AcceptedIn d s depth_most 0 t.from t.to
-    root-whole =
-        rw (p.is_from, p.is_to)
-        (whole_of d s (bytes-known s k) depth_most 0 payload_least (from_of s payload_least) (to_of s payload_least) (h.budget - 1) h.end h.left h.tree root-row open-root.within open-root.judged)
+  module _ {t : Parts} (m : PartsMet s payload_least t) where
+    pub root-order : t.from ≤ t.to
+    root-order = omega (arith, m.is_from, m.is_to, parts.order, parts.next)
 
-    text-is : payload_text d s ≡ shown d s depth_most 0 t.from t.to
-    text-is = rw (p.is_from, p.is_to) (sym root-shown)
+    pub root-within : t.to ≤ length s
+    root-within = omega (arith, m.is_to, parts.next, lies-end root.lies)
 
-    pub root-room : (out : List ℕ) → length (payload_text d s) ≤ length out → 0 + length (shown d s depth_most 0 t.from t.to) ≤ length out
-    root-room out g = omega (arith, ap length text-is)
+    abbrev value : List ℕ
+    value = take (t.to - t.from) (drop t.from s)
 
-    pub root-whole-text : (out : List ℕ) (r : ℕ) (o₁ : List ℕ) → Wrote out 0 (shown d s depth_most 0 t.from t.to) r o₁ → Wrote out 0 (payload_text d s) r o₁
-    root-whole-text out r o₁ w = renamed text-is w
+    value_is : value ≡ V
+    value_is =
+        let a : t.from ≡ from_of s payload_least = m.is_from in
+        let b : t.to ≡ h.end = m.is_to ∙ parts.next in
+        let e : t.from + (t.to - t.from) ≡ t.to = omega (arith, root-order) in
+        sym (slice-take s t.from (t.to - t.from)) ∙ ap (λ (n : ℕ). slice t.from n s) e ∙ rw (a, b) parts.value
 
-pub ruleset payload_rules = (root-headed, root-whole, root-room, root-whole-text, as_long)
+    pub root-accepted : AcceptedIn d 0 value
+    root-accepted = rw value_is value-in
+
+    pub root-text : payload_text d s ≡ shown d 0 value
+    root-text = rw value_is (sym text-is)

@@ -1,67 +1,105 @@
--- The loop of `render` over the members of a set or array: what it keeps, one lemma for each call and each turn, and the whole.
+-- The loop of `render` over the members of a set or array: what it keeps, one lemma for each call, and the whole.
 -- Assumes nothing.
 use mathlib.Core.Path.{◌≡◌, refl, sym, ap, ◌∙◌}
-use mathlib.Core.List.{List, [], ◌∷◌, ◌++◌, append_assoc, append-nil}
-use mathlib.Core.Bool.{Bool, true, false}
-use Prim.Native.Nat.{ℕ, suc, ◌+◌, ◌-◌, ◌^◌, ◌<◌, ◌≤◌}
+use mathlib.Core.List.{List, [], ◌∷◌, ◌++◌, append_assoc}
+use Prim.Native.Nat.{ℕ, zero, suc, ◌+◌, ◌-◌, ◌*◌, ◌<◌, ◌≤◌}
 use native.Mathlib.Omega.{arith}
-use lib.ListN.{length, get_or, length-append}
-use lib.Dec.{ltb}
-use borrow.Author.Tests.{lt-ltb, le-ltb, ltb-true, ltb-false}
-use mir.Syntax.{w8}
-use mir.Val.{Fits}
-use Rattle.paper.specs.Checks.{good}
-use Rattle.numbers.specs.Bytes.{Bytes}
-use Rattle.numbers.specs.Met.{Wrote, Standing}
-use Rattle.numbers.proofs.Places.{bytes-known}
-use Rattle.numbers.proofs.Writing.{Writing, none, joined, as_long, renamed, onward, ended}
-use Rattle.numbers.proofs.Writing as writing
-use Rattle.dictionary.specs.Formats.{array_form}
+use lib.ListN.{length, take, drop, length-append, length-take, length-drop}
+use lib.Seq.{slice}
+use Rattle.std.specs.Prelude.{Option, Some, None, IsSome}
+use Rattle.numbers.specs.Met.{Standing, Taken}
+use Rattle.numbers.specs.declared.output.Output.{Output}
+use Rattle.numbers.specs.Output.{Room, Added}
+use Rattle.numbers.proofs.Places.{slice-take}
+use Rattle.numbers.proofs.Adding.{Adding, joined, as_long, renamed, begun, onward, ended, room}
+use Rattle.dictionary.specs.declared.formats.Format.{Format}
+use Rattle.dictionary.specs.Formats.{form_named, form_number}
 use Rattle.dictionary.specs.Rows.{kind}
-use Rattle.payload.specs.Tree.{Tuples}
-use Rattle.payload.specs.Fits.{GroupRow, child}
+use Rattle.dictionary.specs.Given.{Row}
+use Rattle.dictionary.proofs.Forms.{named_form, named_none}
+use Rattle.payload.specs.declared.Shape.{Shape}
+use Rattle.payload.specs.Tree as tree
+use Rattle.payload.specs.Tree.{Tuples, size}
+use Rattle.payload.specs.Writes.{Writes}
+use Rattle.payload.specs.Fits.{Fits, child}
 use Rattle.payload.specs.Text.{opens, closes, comma_at, label, text_of}
-use Rattle.payload.specs.Reading.{number_for, shape_of, tuple_at, run, inside_of}
-use Rattle.reader_render.specs.declared.member.Part.{Part}
-use Rattle.reader_render.specs.declared.member.Part.TheVariants.{Plain, Group}
-use Rattle.reader_render.specs.Rendered.{past, sequence_of, form_of, from_of, to_of, word_at, value_text, member_text, PlainMet, GroupMet, PartMet, Ready, tree_in, shown, AcceptedIn}
-use Rattle.reader_render.proofs.Inside.{Opened, value-opened, Step, run_step, run_end, Member, Grouped, member-group, member-plain}
-use Rattle.reader_render.proofs.Inside as inside
+use Rattle.payload.specs.Reading.{shape_of}
+use Rattle.payload.specs.Lying.{Lies}
+use Rattle.payload.proofs.Lying.{cut_front, cut_rest}
+use Rattle.payload.proofs.Sitting.{label-set, label_array}
+use Rattle.reader_render.specs.declared.tuple.Parts.{Parts}
+use Rattle.reader_render.specs.Rendered.{past, from_of, Framed, PartsMet, lead, labelled, shown, AcceptedIn, value_text, Worth}
+use Rattle.reader_render.proofs.Parting.{Counted, counted}
+use Rattle.reader_render.proofs.Members.{whole, shown_is, Next, next}
 
--- what stands after the opening bracket
-unfoldable pub remainder : List ℕ → List ℕ → ℕ → ℕ → ℕ → ℕ → List ℕ
-remainder d s room row p q = text_of d (tree_in (inside_of d s room row p p q (length s))) row 0 ++ (closes (shape_of (kind d row)) ∷ [])
+-- what is written from the tuples t on, the first of which is the i-th
+abbrev pub ending : List ℕ → ℕ → Tuples → ℕ → List ℕ
+ending d row t i = text_of d t row i ++ (closes (shape_of (kind d row)) ∷ [])
 
-shown-is : (d s : List ℕ) (room row p q : ℕ) → shown d s room row p q ≡ opens (shape_of (kind d row)) ∷ remainder d s room row p q
-unfolding shown remainder
-shown-is d s room row p q = refl
-
-remainder_is : (d s : List ℕ) (room row p q : ℕ) (h : AcceptedIn d s room row p q) → remainder d s room row p q ≡ text_of d h.tree row 0 ++ (closes (shape_of (kind d row)) ∷ [])
-unfolding remainder
-remainder_is d s room row p q h = rw h.found
-
--- the tuples from p on are accepted, and of the value's text all is written but theirs
-pub record Facts (d s : List ℕ) (room row from to : ℕ) (out₀ : List ℕ) (w₀ : ℕ) (out : List ℕ) (w p i : ℕ) : Type 0 where
-  pub whole : AcceptedIn d s room row from to
-  pub bytes : Bytes s
-  pub fit : w₀ + length (remainder d s room row from to) ≤ length out₀
-  pub some : 1 ≤ room
-  pub ordered : p ≤ to
-  pub few : i ≤ p
-  pub more : ℕ
-  pub seen : List ℕ
-  pub left : ℕ
-  pub end : ℕ
+-- before the i-th of n members, at p, all is written but their text
+pub record Facts (d : List ℕ) (row : ℕ) (v : List ℕ) (o₀ o : Output) (p i n : ℕ) : Type 0 where
+  pub given : AcceptedIn d row v
+  pub fit : Room o₀ (ending d row given.tree 0)
   pub rest : Tuples
-  pub runs : run d s (tuple_at d s (inside_of d s (room - 1))) row more i seen p to left ≡ good to end rest
-  pub there : Writing out₀ w₀ (remainder d s room row from to) w out (text_of d rest row i ++ (closes (shape_of (kind d row)) ∷ []))
+  pub seen : List ℕ
+  pub bytes : List ℕ
+  pub lies : Lies v bytes p (length v)
+  pub written : Writes rest bytes
+  pub fitting : Fits d rest row i seen
+  pub sized : size rest + i ≡ n
+  pub there : Adding o₀ (ending d row given.tree 0) o (ending d row rest i)
 
 -- shut, so that a search takes it whole
-pub data Printing (d s : List ℕ) (room row from to : ℕ) (out₀ : List ℕ) (w₀ : ℕ) (out : List ℕ) (w p i : ℕ) : Type 0 where
-  keeps : Facts d s room row from to out₀ w₀ out w p i → Printing d s room row from to out₀ w₀ out w p i
+pub data Printing (d : List ℕ) (row : ℕ) (v : List ℕ) (o₀ o : Output) (p i n : ℕ) : Type 0 where
+  keeps : Facts d row v o₀ o p i n → Printing d row v o₀ o p i n
 
-facts : {d s : List ℕ} {room row from to : ℕ} {out₀ : List ℕ} {w₀ : ℕ} {out : List ℕ} {w p i : ℕ} → Printing d s room row from to out₀ w₀ out w p i → Facts d s room row from to out₀ w₀ out w p i
+facts : {d : List ℕ} {row : ℕ} {v : List ℕ} {o₀ o : Output} {p i n : ℕ} → Printing d row v o₀ o p i n → Facts d row v o₀ o p i n
 facts (keeps f) = f
+
+module _ {d : List ℕ} {row : ℕ} {v : List ℕ} (h : AcceptedIn d row v) where
+  here : Counted v 0 (0 + length h.written.front) (size h.tree)
+  here = let c = h.written in counted v c.front 0 (0 + length c.front) (size h.tree) (cut_front c.front c.back v c.whole (whole v)) c.here
+
+  pub count-stands : Standing v 0
+  count-stands = here.stands
+
+  module _ (o : Output) (has_room : Room o (shown d row v)) where
+    long : length (shown d row v) ≡ 1 + length (ending d row h.tree 0)
+    long = ap length (shown_is d row v h) ∙ omega arith
+
+    pub opening-room : Room o (opens (shape_of (kind d row)) ∷ [])
+    opening-room = omega (arith, long)
+
+    pub print_start : {o₀ : Output} → Added o (opens (shape_of (kind d row)) ∷ []) o₀ → {n p : ℕ} → Taken v 0 n → p ≡ past v 0 → Printing d row v o₀ o₀ p 0 n
+    print_start {o₀} u {n} {p} t e =
+        let c = h.written in
+        let k : 0 + length c.front ≡ p = sym here.next ∙ sym e in
+        keeps record {
+          given = h;
+          fit = omega (arith, long, u.wrote.place, as_long u);
+          rest = h.tree;
+          seen = [];
+          bytes = c.back;
+          lies = rw k at (cut_rest c.front c.back v c.whole (whole v));
+          written = c.rest;
+          fitting = h.fitting;
+          sized = omega (arith, t.same, here.value);
+          there = begun o₀ (ending d row h.tree 0);
+        }
+
+none-left : (t : Tuples) → size t ≡ 0 → t ≡ tree.none
+unfolding size
+none-left tree.none e = refl
+none-left (tree.scalar n x r) e = absurd (omega arith)
+none-left (tree.inner n g k r) e = absurd (omega arith)
+
+-- a member's label by the shape of the row's value
+label_is : (d : List ℕ) (row n : ℕ) → labelled d (shape_of (kind d row)) (child d row n) ≡ label d row n
+label_is d row n = go (kind d row) refl
+  where
+    go : (k : ℕ) → kind d row ≡ k → labelled d (shape_of k) (child d row n) ≡ label d row n
+    go zero e = sym (label-set d row n e)
+    go (suc k) e = sym (label_array d row n (λ z. omega (arith, e, z)))
 
 regroup : (a b c t z : List ℕ) → (a ++ (b ++ (c ++ t))) ++ z ≡ (a ++ b) ++ (c ++ (t ++ z))
 regroup a b c t z =
@@ -69,203 +107,116 @@ regroup a b c t z =
     ∙ append_assoc (a ++ b) (c ++ t) z
     ∙ ap (λ (l : List ℕ). (a ++ b) ++ l) (append_assoc c t z)
 
-module _ (d s : List ℕ) (room row from to : ℕ) (h : AcceptedIn d s room row from to) where
-  opened : Opened d s room row from to (length s) h.left h.tree
-  opened = value-opened d s row from from to (length s) h.left h.tree h.within room h.found
-
-  pub count-stands : Standing s from
-  count-stands = opened.stands
-
-  pub own_row : GroupRow d row
-  own_row = h.holder
-
-  module _ (out : List ℕ) (pos : ℕ) (room_for : pos + length (shown d s room row from to) ≤ length out) where
-    long : length (shown d s room row from to) ≡ 1 + length (remainder d s room row from to)
-    long = ap length (shown-is d s room row from to) ∙ omega arith
-
-    pub opening-room : pos < length out
-    opening-room = omega (arith, long)
-
-    pub print_start : (w₀ : ℕ) (out₀ : List ℕ) → Wrote out pos (opens (shape_of (kind d row)) ∷ []) w₀ out₀ → ((i : ℕ) → Fits w8 (get_or s i 0)) → (p : ℕ) → p ≡ past s from → Printing d s room row from to out₀ w₀ out₀ w₀ p 0
-    print_start w₀ out₀ v b p e =
-        let x = opened in
-        keeps record {
-          whole = h;
-          bytes = bytes-known s b;
-          fit = omega (arith, long, v.place, as_long v);
-          some = x.some;
-          ordered = omega (arith, e, x.within);
-          few = omega arith;
-          more = x.size;
-          seen = [];
-          left = length s;
-          end = h.left;
-          rest = h.tree;
-          runs = rw e x.runs;
-          there = record { done = []; whole = remainder_is d s room row from to h; there = none out₀ w₀ };
-        }
-
-module _ {d s : List ℕ} {room row from to : ℕ} {out₀ : List ℕ} {w₀ : ℕ} {out : List ℕ} {w p i : ℕ} (K : Printing d s room row from to out₀ w₀ out w p i) where
-  P : Facts d s room row from to out₀ w₀ out w p i
+module _ {d : List ℕ} {row : ℕ} {v : List ℕ} {o₀ o : Output} {p i n : ℕ} (K : Printing d row v o₀ o p i n) where
+  P : Facts d row v o₀ o p i n
   P = facts K
 
-  hb : Bytes s
-  hb = P.bytes
-
-  he : to ≤ length s
-  he = P.whole.within
-
-  pub room-some : 1 ≤ room
-  room-some = P.some
-
-  pub shallower : {t : ℕ} → room ≡ t → room - 1 < t
-  shallower e = omega (arith, P.some)
-
   -- where the members end
-  module _ (h : to ≤ p) where
-    nothing_left : text_of d P.rest row i ++ (closes (shape_of (kind d row)) ∷ []) ≡ closes (shape_of (kind d row)) ∷ []
-    nothing_left = ap (λ (l : List ℕ). l ++ (closes (shape_of (kind d row)) ∷ [])) (run_end d s hb (room - 1) row P.more i P.seen p to P.left P.end P.rest P.ordered h he P.runs)
+  module _ (h : n ≤ i) where
+    nothing_left : ending d row P.rest i ≡ closes (shape_of (kind d row)) ∷ []
+    unfolding text_of
+    nothing_left = let e = none-left P.rest (omega (arith, P.sized)) in rw e
 
-    pub closing-room : w < length out
-    closing-room = omega (arith, writing.room P.fit P.there, ap length nothing_left)
+    pub closing-room : Room o (closes (shape_of (kind d row)) ∷ [])
+    closing-room = omega (arith, room P.fit P.there, ap length nothing_left)
 
-    module _ (out₁ : List ℕ) (pos r : ℕ) (o₁ : List ℕ) (v : Wrote out₁ pos (opens (shape_of (kind d row)) ∷ []) w₀ out₀) (u : Wrote out w (closes (shape_of (kind d row)) ∷ []) r o₁) where
-      pub print_done : Wrote out₁ pos (shown d s room row from to) r o₁
-      print_done = renamed (shown-is d s room row from to) (joined v (ended refl (onward _ nothing_left P.there u)))
-
-      pub print_long : length o₁ ≡ length out₁
-      print_long = as_long print_done
+    pub print_done : {o₁ o₂ : Output} → Added o₁ (opens (shape_of (kind d row)) ∷ []) o₀ → Added o (closes (shape_of (kind d row)) ∷ []) o₂ → Added o₁ (shown d row v) o₂
+    print_done a b = renamed (shown_is d row v P.given) (joined a (ended refl (onward _ nothing_left P.there b)))
 
   -- one member more
-  module _ (h : p < to) where
-    step : Step d s (tuple_at d s (inside_of d s (room - 1))) row i P.seen p to P.left to P.end P.rest
-    step = run_step d s (tuple_at d s (inside_of d s (room - 1))) row P.more i P.seen p to P.left to P.end P.rest h P.runs
+  module _ (h : i < n) where
+    first : Next d row v p i P.seen P.rest
+    first = next d row P.given.holder v p i P.seen P.rest P.bytes P.lies P.written P.fitting (omega (arith, P.sized))
 
-    group-here : form_of s p ≤ array_form → Grouped d s (room - 1) row i p to step.next step.head
-    group-here f = member-group d s hb (room - 1) row i P.whole.holder P.seen p to P.left step.next step.left step.head he step.first f
-
-    plain_here : array_form < form_of s p → inside.Plain d s row i p to step.next step.head
-    plain_here f = member-plain d s hb (room - 1) row i P.whole.holder P.seen p to P.left step.next step.left step.head he step.first f
-
-    -- whatever its value is
-    some-member : (v : List ℕ) × Member d s row i p to step.next step.head v
-    some-member = go (ltb array_form (form_of s p)) refl
-      where
-        go : (b : Bool) → ltb array_form (form_of s p) ≡ b → (v : List ℕ) × Member d s row i p to step.next step.head v
-        go true e = (word_at d s (child d row (sequence_of s p)) (form_of s p) (from_of s p) (to_of s p), (plain_here (ltb-true _ _ e)).here)
-        go false e = (shown d s (room - 1) (child d row (sequence_of s p)) (from_of s p) (to_of s p), (group-here (ltb-false _ _ e)).here)
-
-    pub index-fits : length s < 2 ^ 64 → i + 1 < 2 ^ 64
-    index-fits f = omega (arith, P.few, P.whole.within)
-
-    pub member-ready : Ready d s row p
-    member-ready = record { holder = P.whole.holder; framed = some-member.1.headed; inside = some-member.1.inside; word = λ f. (plain_here f).stated }
-
-    abbrev Lead : List ℕ
-    Lead = comma_at i ++ label d row (sequence_of s p)
+    abbrev V : List ℕ
+    V = value_text d (child d row first.number) first.form first.value
 
     abbrev Others : List ℕ
-    Others = text_of d step.rest row (suc i) ++ (closes (shape_of (kind d row)) ∷ [])
+    Others = ending d row first.others (suc i)
 
-    -- what is left is this member's text and that of the others
-    left_is : (v : List ℕ) → Member d s row i p to step.next step.head v → text_of d P.rest row i ++ (closes (shape_of (kind d row)) ∷ []) ≡ Lead ++ (v ++ Others)
-    left_is v m =
-        ap (λ (l : List ℕ). l ++ (closes (shape_of (kind d row)) ∷ [])) (ap (λ (x : Tuples). text_of d x row i) step.whole ∙ m.text step.rest)
-        ∙ regroup (comma_at i) (label d row (sequence_of s p)) v (text_of d step.rest row (suc i)) (closes (shape_of (kind d row)) ∷ [])
+    left_is : ending d row P.rest i ≡ (comma_at i ++ label d row first.number) ++ (V ++ Others)
+    left_is =
+        ap (λ (l : List ℕ). l ++ (closes (shape_of (kind d row)) ∷ [])) first.text
+        ∙ regroup (comma_at i) (label d row first.number) V (text_of d first.others row (suc i)) (closes (shape_of (kind d row)) ∷ [])
 
-    abbrev After : List ℕ → ℕ → List ℕ → Type 0
-    After v w₁ o₁ = Writing out₀ w₀ (remainder d s room row from to) w₁ o₁ (v ++ Others)
+    pub member-framed : Framed v p
+    member-framed = first.parts.framed
 
-    again : (q : ℕ) → q ≡ to_of s p → (v : List ℕ) → Member d s row i p to step.next step.head v → (w₁ : ℕ) (o₁ : List ℕ) → After [] w₁ o₁ → Printing d s room row from to out₀ w₀ o₁ w₁ q (i + 1)
-    again q eq v m w₁ o₁ u =
-        let e : i + 1 ≡ suc i = omega arith in
-        let z : q ≡ step.next = eq ∙ sym m.next in
-        keeps record {
-          whole = P.whole;
-          bytes = P.bytes;
-          fit = P.fit;
-          some = P.some;
-          ordered = omega (arith, eq, m.within);
-          few = omega (arith, eq, P.few);
-          more = step.more;
-          seen = number_for step.head ∷ P.seen;
-          left = step.left;
-          end = P.end;
-          rest = step.rest;
-          runs = rw (e, z) step.others;
-          there = rw e u;
-        }
+    module _ {t : Parts} (m : PartsMet v p t) where
+      pub part-within : t.to ≤ length v
+      part-within = omega (arith, m.is_to, first.parts.next, first.lies.start)
 
-    plain-text : array_form < form_of s p → value_text d s row i p ≡ word_at d s (child d row (sequence_of s p)) (form_of s p) (from_of s p) (to_of s p)
-    unfolding value_text
-    plain-text f = rw (le-ltb (form_of s p) 2 (omega arith))
+      pub part-order : t.from ≤ t.to
+      part-order = omega (arith, m.is_from, m.is_to, first.parts.order, first.parts.next)
 
-    group-text : form_of s p ≤ array_form → value_text d s row i p ≡ []
-    unfolding value_text
-    group-text f = rw (lt-ltb (form_of s p) 2 (omega arith))
+      pub part-named : (r : Option Format) → r ≡ form_named t.form → IsSome r
+      part-named r n = go r (n ∙ ap form_named (m.is_form ∙ first.parts.form))
+        where
+          go : (o : Option Format) → o ≡ form_named first.form → IsSome o
+          go (Some f) e = refl
+          go None e = absurd (omega (arith, named_none first.form (sym e), first.low))
 
-    pub member-room : w + length (member_text d s row i p) ≤ length out
-    member-room = go (ltb array_form (form_of s p)) refl
-      where
-        go : (b : Bool) → ltb array_form (form_of s p) ≡ b → w + length (member_text d s row i p) ≤ length out
-        go true e =
-            let f = ltb-true _ _ e in
-            let v = word_at d s (child d row (sequence_of s p)) (form_of s p) (from_of s p) (to_of s p) in
-            omega (arith, writing.room P.fit P.there, ap length (left_is v (plain_here f).here), length-append Lead (v ++ Others), length-append v Others, length-append Lead (value_text d s row i p), ap length (plain-text f))
-        go false e =
-            let f = ltb-false _ _ e in
-            let v = shown d s (room - 1) (child d row (sequence_of s p)) (from_of s p) (to_of s p) in
-            omega (arith, writing.room P.fit P.there, ap length (left_is v (group-here f).here), length-append Lead (v ++ Others), length-append Lead (value_text d s row i p), ap length (group-text f))
+      module _ {c : ℕ} (ec : c ≡ child d row t.number) where
+        child_is : c ≡ child d row first.number
+        child_is = ec ∙ ap (child d row) (m.is_number ∙ first.parts.number)
 
-    module _ {M : Part} {o₁ : List ℕ} (m : PartMet d s row i p out w M o₁) where
-      -- a scalar
-      module _ {q v : ℕ} (e : M ≡ Plain q v) where
-        plain-met : PlainMet d s row i p out w q v o₁
-        plain-met = taken (rw e at m)
-          where
-            taken : PartMet d s row i p out w (Plain q v) o₁ → PlainMet d s row i p out w q v o₁
-            taken m = m.met
+        pub member-row : Row d c
+        member-row = record { accepted = P.given.holder.accepted; inside = rw child_is first.inside }
 
-        pub plain_again : Printing d s room row from to out₀ w₀ o₁ v q (i + 1)
-        plain_again =
-            let t = word_at d s (child d row (sequence_of s p)) (form_of s p) (from_of s p) (to_of s p) in
-            let x = (plain_here plain-met.form).here in
-            let y : text_of d P.rest row i ++ (closes (shape_of (kind d row)) ∷ []) ≡ member_text d s row i p ++ ([] ++ Others) = left_is t x ∙ sym (append_assoc Lead t Others) ∙ ap (λ (l : List ℕ). (Lead ++ l) ++ Others) (sym (plain-text plain-met.form)) in
-            again q plain-met.is_next t x v o₁ (onward _ y P.there plain-met.wrote)
+        module _ {g : Shape} (eg : g ≡ shape_of (kind d row)) where
+          lead_is : lead d g c i ≡ comma_at i ++ label d row first.number
+          lead_is = rw (eg, child_is, label_is d row first.number)
 
-        pub plain-falls : to - q < to - p
-        plain-falls = omega (arith, plain-met.is_next)
+          pub lead-room : Room o (lead d g c i)
+          lead-room = omega (arith, room P.fit P.there, ap length left_is, ap length lead_is, length-append (comma_at i ++ label d row first.number) (V ++ Others))
 
-      -- a set or array
-      module _ {c f z v : ℕ} (e : M ≡ Group c f z v) where
-        group-met : GroupMet d s row i p out w c f z v o₁
-        group-met = taken (rw e at m)
-          where
-            taken : PartMet d s row i p out w (Group c f z v) o₁ → GroupMet d s row i p out w c f z v o₁
-            taken m = m.met
+          -- the lead is written, and the format is known
+          module _ {o₁ : Output} (u : Added o (lead d g c i) o₁) {F : Format} (eF : form_named t.form ≡ Some F) where
+            abbrev value : List ℕ
+            value = take (t.to - t.from) (drop t.from v)
 
-        own : Grouped d s (room - 1) row i p to step.next step.head
-        own = group-here group-met.form
+            value_is : value ≡ first.value
+            value_is =
+                let a : t.from ≡ from_of v p = m.is_from in
+                let b : t.to ≡ first.next = m.is_to ∙ first.parts.next in
+                let e : t.from + (t.to - t.from) ≡ t.to = omega (arith, part-order) in
+                sym (slice-take v t.from (t.to - t.from)) ∙ ap (λ (k : ℕ). slice t.from k v) e ∙ rw (a, b) first.parts.value
 
-        pub inner-whole : AcceptedIn d s (room - 1) c f z
-        inner-whole = rw (group-met.is_row, group-met.is_from, group-met.is_to) own.whole
+            form_is : form_number F ≡ first.form
+            form_is = sym (named_form first.form F (ap form_named (sym first.parts.form) ∙ ap form_named (sym m.is_form) ∙ eF))
 
-        inner-member : Member d s row i p to step.next step.head (shown d s (room - 1) c f z)
-        inner-member = rw (group-met.is_row, group-met.is_from, group-met.is_to) own.here
+            pub value-worth : Worth d c (form_number F) value
+            value-worth = rw (child_is, form_is, value_is) first.worth
 
-        led : After (shown d s (room - 1) c f z) v o₁
-        led =
-            let t = shown d s (room - 1) c f z in
-            let y : text_of d P.rest row i ++ (closes (shape_of (kind d row)) ∷ []) ≡ member_text d s row i p ++ (t ++ Others) = left_is t inner-member ∙ ap (λ (l : List ℕ). l ++ (t ++ Others)) (sym (append-nil Lead) ∙ ap (λ (l : List ℕ). Lead ++ l) (sym (group-text group-met.form))) in
-            onward _ y P.there group-met.wrote
+            value-text : value_text d c (form_number F) value ≡ V
+            value-text = rw (child_is, form_is, value_is)
 
-        pub inner_room : v + length (shown d s (room - 1) c f z) ≤ length o₁
-        inner_room = omega (arith, writing.room P.fit led, length-append (shown d s (room - 1) c f z) Others)
+            after : Adding o₀ (ending d row P.given.tree 0) o₁ (V ++ Others)
+            after = onward _ left_is P.there (renamed (sym lead_is) u)
 
-        pub inner_again : {w₂ : ℕ} {o₂ : List ℕ} → Wrote o₁ v (shown d s (room - 1) c f z) w₂ o₂ → Printing d s room row from to out₀ w₀ o₂ w₂ z (i + 1)
-        inner_again {w₂} {o₂} u = again z group-met.is_to (shown d s (room - 1) c f z) inner-member w₂ o₂ (onward _ refl led u)
+            pub value-room : Room o₁ (value_text d c (form_number F) value)
+            value-room = omega (arith, room P.fit after, length-append V Others, ap length value-text)
 
-        pub inner-falls : to - z < to - p
-        inner-falls = omega (arith, group-met.is_to)
+            pub value-falls : 2 * length value + 1 < 2 * length v
+            value-falls = omega (arith, length-take (t.to - t.from) (drop t.from v), length-drop t.from v, m.is_from, part-within)
 
-pub ruleset printing = (count-stands, own_row, opening-room, print_start, room-some, shallower, closing-room, print_done, print_long, index-fits, member-ready, member-room, plain_again, plain-falls, inner-whole, inner_room, inner_again, inner-falls, as_long)
+            pub print_again : {o₂ : Output} → Added o₁ (value_text d c (form_number F) value) o₂ → Printing d row v o₀ o₂ t.to (i + 1) n
+            print_again {o₂} b =
+                let e : suc i ≡ i + 1 = omega arith in
+                let z : first.next ≡ t.to = sym (m.is_to ∙ first.parts.next) in
+                let r : Facts d row v o₀ o₂ t.to (suc i) n = record {
+                  given = P.given;
+                  fit = P.fit;
+                  rest = first.others;
+                  seen = first.number ∷ P.seen;
+                  bytes = first.bytes;
+                  lies = rw z at first.lies;
+                  written = first.written;
+                  fitting = first.fitting;
+                  sized = omega (arith, P.sized, first.sized);
+                  there = onward _ refl after (renamed (sym value-text) b);
+                } in keeps (rw e at r)
+
+-- one byte by another name
+pub bracket : {o o₁ : Output} {x y : ℕ} → Added o (x ∷ []) o₁ → x ≡ y → Added o (y ∷ []) o₁
+bracket {o} {o₁} {x} {y} w e = renamed (ap (λ (b : ℕ). b ∷ []) (sym e)) w

@@ -1,133 +1,94 @@
 // A scalar's value: judged, and measured. What is let through is the length of its text.
 #![tactic(auto)]
 
-ghost use Rattle.std.specs.Prelude.{◌≡◌, true};
-ghost use Rattle.std.proofs.Math.Seq.{slice};
+ghost use Rattle.std.specs.Prelude.{◌≡◌, true, length};
 ghost use Rattle.numbers.specs.Integer.{sign_repeated};
-ghost use Rattle.dictionary.specs.Formats.{enum_form};
+ghost use Rattle.dictionary.specs.Formats.{enum_form, form_number};
 ghost use Rattle.dictionary.specs.Rows.{kind};
 ghost use Rattle.dictionary.specs.Given.{Row};
+ghost use Rattle.payload.specs.Checked.{checked};
 ghost use Rattle.payload.specs.Fits.{fits};
 ghost use Rattle.payload.specs.Values.{integer_value, option_value, string_value, boolean_value, scalar_value};
-ghost use Rattle.reader_values.specs.Words.{Span, WordMet, AnyWordMet};
+ghost use Rattle.reader_values.specs.Words.{WordMet, AnyWordMet};
 
-use dictionary::Child;
 use dictionary::children::{child_numbered, name_long};
-use dictionary::formats::{ENUM, INTEGER, NULL, STRING};
-use numbers::{Found, decimal_length, integer_at, number_at};
-use paper::{INTEGER_LEAST, INTEGER_MOST, VALUE_WRONG};
-use payload::Checked;
+use dictionary::formats::Format;
+use numbers::{decimal_length, integer_at, number_at};
+use paper::{INTEGER_LEAST, INTEGER_MOST, Refusal};
 use payload::strings::well_spelt;
 
 // Request 6: "any integer of two or more bytes whose top byte only repeats the sign".
-fn sign_repeated(s: &[u8], from: usize, to: usize) -> bool
-    requires { Span s.now from to }
-    ensures { result ≡ sign_repeated (slice from to s.now) }
+#[tactic(auto, unfolding(numbers::specs::Integer::sign_repeated))]
+fn sign_repeated(v: &[u8]) -> bool
+    ensures { result ≡ sign_repeated v.now }
 {
-    if to - from < 2 {
-        return false;
+    match v {
+        [.., next, 0x00] => *next < 0x80,
+        [.., next, 0xFF] => *next >= 0x80,
+        _ => false,
     }
-    if s[to - 1] == 0x00 {
-        return s[to - 2] < 0x80;
-    }
-    if s[to - 1] == 0xFF {
-        return s[to - 2] >= 0x80;
-    }
-    false
 }
 
-fn integer_word(s: &[u8], from: usize, to: usize) -> Checked
-    requires { Span s.now from to }
-    ensures { AnyWordMet from to (integer_value (slice from to s.now)) result }
+#[tactic(auto, unfolding(payload::specs::Values::integer_value, numbers::specs::Integer::is_integer))]
+fn integer_word(v: &[u8]) -> Result<usize, Refusal>
+    ensures { AnyWordMet (length v.now) (integer_value v.now) (checked result) }
 {
-    let long = to - from;
-    if long < INTEGER_LEAST {
-        return Checked::Refused(VALUE_WRONG);
+    if v.len() < INTEGER_LEAST || INTEGER_MOST < v.len() || sign_repeated(v) {
+        return Err(Refusal::ValueWrong);
     }
-    if long > INTEGER_MOST {
-        return Checked::Refused(VALUE_WRONG);
-    }
-    if sign_repeated(s, from, to) {
-        return Checked::Refused(VALUE_WRONG);
-    }
-    Checked::Good(decimal_length(integer_at(s, from, to)))
+    Ok(decimal_length(integer_at(v, 0, v.len())))
 }
 
 // The option's number is a field, so it can fail as one; then it fills V and is known.
-fn option_word(d: &[u8], s: &[u8], row: usize, from: usize, to: usize) -> Checked
+#[tactic(auto, unfolding(payload::specs::Values::option_value))]
+fn option_word(d: &[u8], row: usize, v: &[u8]) -> Result<usize, Refusal>
     requires row { Row d.now row }
     requires is_enum { kind d.now row ≡ enum_form }
-    requires span { Span s.now from to }
-    ensures { WordMet d.now row from to (option_value d.now row (slice from to s.now)) result }
+    ensures { WordMet d.now row (length v.now) (option_value d.now row v.now) (checked result) }
 {
-    match number_at(s, from, to) {
-        Found::Refused(k) => return Checked::Refused(k),
-        Found::Value(n, w) => {
-            if 1 + w != to - from {
-                return Checked::Refused(VALUE_WRONG);
-            }
-            match child_numbered(d, row, n) {
-                Child::Nothing => return Checked::Refused(VALUE_WRONG),
-                Child::At(c) => return Checked::Good(name_long(d, c) + 2),
-            }
-        }
+    let n = number_at(v, 0, v.len())?;
+    if 1 + n.width != v.len() {
+        return Err(Refusal::ValueWrong);
     }
+    let option = child_numbered(d, row, n.value).ok_or(Refusal::ValueWrong)?;
+    Ok(name_long(d, option) + 2)
 }
 
 // Two quotes in place of the closing 00.
-fn string_word(s: &[u8], from: usize, to: usize) -> Checked
-    requires { Span s.now from to }
-    ensures { AnyWordMet from to (string_value (slice from to s.now)) result }
+#[tactic(auto, unfolding(payload::specs::Values::string_value))]
+fn string_word(v: &[u8]) -> Result<usize, Refusal>
+    ensures { AnyWordMet (length v.now) (string_value v.now) (checked result) }
 {
-    if to <= from {
-        return Checked::Refused(VALUE_WRONG);
+    match v {
+        [text @ .., 0] if well_spelt(text, 0, text.len()) => Ok(text.len() + 2),
+        _ => Err(Refusal::ValueWrong),
     }
-    if s[to - 1] != 0 {
-        return Checked::Refused(VALUE_WRONG);
-    }
-    if !well_spelt(s, from, to - 1) {
-        return Checked::Refused(VALUE_WRONG);
-    }
-    Checked::Good(to - from + 1)
 }
 
-fn boolean_word(s: &[u8], from: usize, to: usize) -> Checked
-    requires { Span s.now from to }
-    ensures { AnyWordMet from to (boolean_value (slice from to s.now)) result }
+#[tactic(auto, unfolding(payload::specs::Values::boolean_value))]
+fn boolean_word(v: &[u8]) -> Result<usize, Refusal>
+    ensures { AnyWordMet (length v.now) (boolean_value v.now) (checked result) }
 {
-    if to - from != 1 {
-        return Checked::Refused(VALUE_WRONG);
+    match v {
+        [0x00] => Ok(5),
+        [0xFF] => Ok(4),
+        _ => Err(Refusal::ValueWrong),
     }
-    if s[from] == 0x00 {
-        return Checked::Good(5);
-    }
-    if s[from] == 0xFF {
-        return Checked::Good(4);
-    }
-    Checked::Refused(VALUE_WRONG)
 }
 
-// V, of the format f, which fits the row.
-pub fn word_at(d: &[u8], s: &[u8], row: usize, f: usize, from: usize, to: usize) -> Checked
+// The bytes v as a value of the format, which fits the row. A boolean's is the last that is left.
+#[tactic(auto, unfolding(payload::specs::Values::scalar_value))]
+pub fn word_at(d: &[u8], row: usize, format: Format, v: &[u8]) -> Result<usize, Refusal>
     requires row { Row d.now row }
-    requires fits_row { fits d.now row f ≡ true }
-    requires span { Span s.now from to }
-    ensures { WordMet d.now row from to (scalar_value d.now row f (slice from to s.now)) result }
+    requires fits_row { fits d.now row (form_number format) ≡ true }
+    ensures { WordMet d.now row (length v.now) (scalar_value d.now row (form_number format) v.now) (checked result) }
 {
-    if f == NULL {
-        if from < to {
-            return Checked::Refused(VALUE_WRONG);
-        }
-        return Checked::Good(4);
+    match format {
+        Format::Null if v.is_empty() => Ok(4),
+        Format::Null => Err(Refusal::ValueWrong),
+        Format::Integer => integer_word(v),
+        Format::Enum => option_word(d, row, v),
+        Format::String => string_word(v),
+        _ => boolean_word(v),
     }
-    if f == INTEGER {
-        return integer_word(s, from, to);
-    }
-    if f == ENUM {
-        return option_word(d, s, row, from, to);
-    }
-    if f == STRING {
-        return string_word(s, from, to);
-    }
-    boolean_word(s, from, to)
 }

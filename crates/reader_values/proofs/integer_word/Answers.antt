@@ -1,17 +1,9 @@
--- `reader_values::integer_word` meets its contract: 1 to 8 bytes, none that only repeats the sign, and the length of their decimal.
+-- `reader_values::integer_word` meets its contract: 1 to 8 bytes, and no top byte that only repeats the sign.
 -- Assumes nothing.
-use Rattle.std.proofs.Common.{rules}
-use Rattle.reader_values.proofs.Scalars.{integers}
+use Rattle.std.proofs.Common.{sym, ◌∙◌, arith}
+use Rattle.reader_values.proofs.Scalars.{integer_is}
 use Rattle.reader_values.proofs.integer_word.Goals as goal
 
-pub returns-then-long-lt-INTEGER_LEAST : goal.returns-then-long-lt-INTEGER_LEAST
-returns-then-long-lt-INTEGER_LEAST c = search (integers, rules)
-
-pub returns-then-long-gt-INTEGER_MOST : goal.returns-then-long-gt-INTEGER_MOST
-returns-then-long-gt-INTEGER_MOST c = search (integers, rules)
-
-pub returns-then-sign_repeated : goal.returns-then-sign_repeated
-returns-then-sign_repeated c = search (integers, rules)
-
 pub returns : goal.returns
-returns c = search (integers, rules)
+returns c =
+    integer_is c.args.v.now c.integer_at.result c.decimal_length.result (omega arith) (omega arith) (sym c.sign_repeated.ensures ∙ c.if-sign_repeated.false) c.integer_at.ensures c.decimal_length.ensures

@@ -1,23 +1,12 @@
--- `reader_values::option_word` meets its contract: a number that fills V and is known, and the length of the option's name.
+-- `reader_values::option_word` meets its contract: an option's number, which fills the value, and its name in quotes.
 -- Assumes nothing.
-use Rattle.std.proofs.Common.{rules}
-use Rattle.reader_values.proofs.Scalars.{options}
+use Rattle.std.proofs.Common.{rules, sym, ap, ◌∙◌}
+use Rattle.std.specs.Result.{result_ok}
+use Rattle.reader_values.proofs.Scalars.{enum_holds, option-row}
 use Rattle.reader_values.proofs.option_word.Goals as goal
 
-pub returns-in-Refused : goal.returns-in-Refused
-returns-in-Refused c = search (options, rules)
-
-pub returns-then-w-to : goal.returns-then-w-to
-returns-then-w-to c = search (options, rules)
-
 pub child_numbered-requires-clause-row_in : goal.child_numbered-requires-clause-row_in
-child_numbered-requires-clause-row_in c = search (options, rules)
-
-pub returns-in-Nothing : goal.returns-in-Nothing
-returns-in-Nothing c = search (options, rules)
+child_numbered-requires-clause-row_in c = search (enum_holds, rules)
 
 pub name_long-requires : goal.name_long-requires
-name_long-requires c = search (options, rules)
-
-pub returns-in-At : goal.returns-in-At
-returns-in-At c = search (options, rules)
+name_long-requires c = option-row c.args.d.now c.args.row c.requires.row c.requires.is_enum _ _ (sym c.child_numbered.ensures ∙ c.ok_or.ensures.ok_part ∙ ap result_ok c.in_ok-option.was)

@@ -8,7 +8,4 @@ abbrev pub decreases-inside : goal.decreases-inside
 decreases-inside l = l.room
 
 abbrev pub invariant-loop-i : goal.invariant-loop-i
-invariant-loop-i l = Loop l.d l.s (l.room - 1) l.row l.to l.count l.initial.pos l.initial.left l.bits l.pos l.left l.long l.i
-
-abbrev pub decreases-loop-i : goal.decreases-loop-i
-decreases-loop-i l = l.count - l.i
+invariant-loop-i l = Loop l.d l.s (l.room - 1) l.row l.value.to l.i-end l.initial.pos l.initial.left l.roll l.pos l.left l.long l.i

@@ -1,14 +1,11 @@
--- `reader_members::member::front_long` meets its contract: the length of a comma and a label.
+-- `reader_members::member::front_long` meets its contract.
 -- Assumes nothing.
 use Rattle.std.proofs.Common.{rules}
 use Rattle.reader_members.proofs.Seating.{fronts}
 use Rattle.reader_members.proofs.member.front_long.Goals as goal
 
-pub format_nibble-requires : goal.format_nibble-requires
-format_nibble-requires c = search (fronts, rules)
+pub returns-then-is_set : goal.returns-then-is_set
+returns-then-is_set c = search (fronts, rules)
 
-pub returns-then-format_nibble-ne-SET : goal.returns-then-format_nibble-ne-SET
-returns-then-format_nibble-ne-SET c = search (fronts, rules)
-
-pub returns : goal.returns
-returns c = search (fronts, rules)
+pub returns-else-is_set : goal.returns-else-is_set
+returns-else-is_set c = search (fronts, rules)

@@ -4,8 +4,11 @@ use Rattle.std.proofs.Common.{rules}
 use Rattle.reader_render.proofs.Copying.{label_rules}
 use Rattle.reader_render.proofs.piece.put_label.Goals as goal
 
-pub returns-in-Array : goal.returns-in-Array
-returns-in-Array c = search (label_rules, rules)
+pub put-requires : goal.put-requires
+put-requires c = search (label_rules, rules)
 
 pub returns-in-Set : goal.returns-in-Set
 returns-in-Set c = search (label_rules, rules)
+
+pub returns-in_default : goal.returns-in_default
+returns-in_default c = search (label_rules, rules)
