@@ -16,8 +16,7 @@ use Rattle.paper.specs.Limits.{depth_most}
 use Rattle.paper.specs.Refusals.{accepted, not_known, given_twice, not_in_base, misfit, too_deep, bad_text}
 use Rattle.paper.specs.Checks.{choose, Judged, refused, good, refuse, need, after}
 use Rattle.paper.proofs.Checks.{same_place, same_thing, needed, followed}
-use Rattle.dictionary.specs.declared.Child.{Child}
-use Rattle.dictionary.specs.declared.Child.TheVariants.{At, Nothing}
+use Rattle.std.specs.Prelude.{Option, Some, None}
 use Rattle.dictionary.specs.Formats.{set_form, real_form}
 use Rattle.dictionary.specs.Rows.{number_in}
 use Rattle.dictionary.specs.Children.{child_named}
@@ -115,12 +114,12 @@ module _ (d s : List ℕ) where
         (made_leads (advance d s (stands (colon_due n f up) q)) (colon_at s q) (λ _. n) (λ m. value_due m f up) (colon_leads n f up q))
     fresh_leads n q false = comes-here d s (ended given_twice (past space s p))
 
-    child_leads : (c : Child) (q : ℕ)
+    child_leads : (c : Option ℕ) (q : ℕ)
         → Leads (heard (child_moved d c f up) (past space s p) q)
         (after (child_for d s c (past space s p) q) λ e _ n. need (fresh d f.row f.seen n) given_twice (past space s p) λ _. after (colon_at s e) λ z _ _. good z 0 n) (λ m. value_due m f up)
     unfolding Leads
-    child_leads Nothing q = comes-here d s (ended not_known (past space s p))
-    child_leads (At c) q = fresh_leads (number_in d c) q (fresh d f.row f.seen (number_in d c))
+    child_leads None q = comes-here d s (ended not_known (past space s p))
+    child_leads (Some c) q = fresh_leads (number_in d c) q (fresh d f.row f.seen (number_in d c))
 
     name_leads : (k : Token) (q : ℕ)
         → Leads (heard (name_moved d k f up) (past space s p) q)

@@ -10,7 +10,7 @@ use mathlib.Core.Bool.{true≢false}
 use lib.ListN.{length, drop}
 use Rattle.paper.specs.Tests.{among}
 use Rattle.paper.specs.Refusals.{accepted}
-use Rattle.paper.specs.declared.Answer.{Answer}
+use Rattle.paper.specs.Refusal.{Answer}
 use Rattle.payload.specs.Reading.{result}
 use Rattle.payload.specs.Answered.{Answered}
 use Rattle.payload.proofs.Saying.{zero_exactly, zero_so, above_exactly, above_so}

@@ -14,8 +14,7 @@ use lib.Dec.{eqb}
 use Rattle.paper.specs.Limits.{depth_most}
 use Rattle.paper.specs.Refusals.{accepted, not_known, given_twice, not_in_base, misfit, too_deep, bad_text}
 use Rattle.paper.specs.Checks.{choose, Judged, refused, good}
-use Rattle.dictionary.specs.declared.Child.{Child}
-use Rattle.dictionary.specs.declared.Child.TheVariants.{At, Nothing}
+use Rattle.std.specs.Prelude.{Option, Some, None}
 use Rattle.dictionary.specs.Formats.{set_form, real_form}
 use Rattle.dictionary.specs.Rows.{number_in}
 use Rattle.dictionary.specs.Children.{child_named}
@@ -47,9 +46,9 @@ scalar_moved (wrong k) y = stops k
 scalar_moved (worth x) y = goes y
 
 module _ (d : List ℕ) where
-  abbrev pub child_moved : Child → Frame → List Frame → Moved
-  child_moved Nothing f up = stops not_known
-  child_moved (At c) f up = choose (fresh d f.row f.seen (number_in d c)) (λ _. goes (colon_due (number_in d c) f up)) (λ _. stops given_twice)
+  abbrev pub child_moved : Option ℕ → Frame → List Frame → Moved
+  child_moved None f up = stops not_known
+  child_moved (Some c) f up = choose (fresh d f.row f.seen (number_in d c)) (λ _. goes (colon_due (number_in d c) f up)) (λ _. stops given_twice)
 
   abbrev pub name_moved : Token → Frame → List Frame → Moved
   name_moved (a_sign b) f up = stops bad_text

@@ -5,6 +5,7 @@
 --   run_sound       members up to the bracket that closes them
 --   inside-sound    an object or array
 --   tree-sound      the whole text
+use Rattle.std.specs.Prelude.{Option, Some, None}
 use mathlib.Core.Path.{◌≡◌, refl, sym, ap, ◌∙◌}
 use mathlib.Core.List.{List, [], ◌∷◌, ◌++◌, append_assoc, append-nil}
 use mathlib.Core.Bool.{Bool, true, false, not, ◌&&◌, ◌||◌, true≢false}
@@ -19,12 +20,10 @@ use Rattle.paper.specs.Refusals.{accepted, not_in_base, misfit, bad_text}
 use Rattle.paper.specs.Checks.{choose, good, need, after}
 use Rattle.paper.proofs.Tests.{and_left, and_right, and_both}
 use Rattle.paper.proofs.Checks.{never, same_place, same_thing, passed, needed, followed}
-use Rattle.numbers.specs.declared.Said.{Said}
-use Rattle.numbers.specs.declared.Said.TheVariants.{Wrong, Is}
+use Rattle.numbers.specs.declared.Integer.{Integer}
 use Rattle.numbers.specs.Decimal.{integral, integer_said}
 use Rattle.numbers.proofs.Decimals.{told}
-use Rattle.dictionary.specs.declared.Child.{Child}
-use Rattle.dictionary.specs.declared.Child.TheVariants.{At, Nothing}
+use Rattle.std.specs.Prelude.{Option, Some, None}
 use Rattle.dictionary.specs.Formats.{set_form, array_form, null_form, integer_form, enum_form, string_form, real_form}
 use Rattle.dictionary.specs.Rows.{entries, kind, name, number_in}
 use Rattle.dictionary.specs.Children.{child_named}
@@ -119,7 +118,7 @@ module _ (d s : List ℕ) (ok : accepts d ≡ true) where
     knows : known d row i n ≡ true
     label : label_tokens d row n ≡ a_string t ∷ a_sign colon ∷ []
 
-  found-child : (row i c : ℕ) (t : List ℕ) → row < entries d → kind d row ≡ set_form → child_named d row t ≡ At c → Found row i (number_in d c) c t
+  found-child : (row i c : ℕ) (t : List ℕ) → row < entries d → kind d row ≡ set_form → child_named d row t ≡ Some c → Found row i (number_in d c) c t
   unfolding known child label_tokens
   found-child row i c t h k e =
       let w = accepted_family d ok row h (set-parent d row k) in
@@ -132,9 +131,9 @@ module _ (d s : List ℕ) (ok : accepts d ≡ true) where
   name-child : (row i : ℕ) (t : List ℕ) (at q e l n : ℕ) → row < entries d → kind d row ≡ set_form → name_for d s (a_string t) row at q ≡ good e l n → (e ≡ q) × (label_tokens d row n ≡ a_string t ∷ a_sign colon ∷ []) × (known d row i n ≡ true)
   name-child row i t at q e l n h k x = go (child_named d row t) refl x
     where
-      go : (c : Child) → child_named d row t ≡ c → child_for d s c at q ≡ good e l n → (e ≡ q) × (label_tokens d row n ≡ a_string t ∷ a_sign colon ∷ []) × (known d row i n ≡ true)
-      go Nothing f x = never x
-      go (At c) f x =
+      go : (c : Option ℕ) → child_named d row t ≡ c → child_for d s c at q ≡ good e l n → (e ≡ q) × (label_tokens d row n ≡ a_string t ∷ a_sign colon ∷ []) × (known d row i n ≡ true)
+      go None f x = never x
+      go (Some c) f x =
           let z = same_thing x in
           let o = found-child row i c t h k f in
           (sym (same_place x), rw z at o.label, rw z at o.knows)
@@ -256,12 +255,12 @@ module _ (d s : List ℕ) (ok : accepts d ≡ true) where
           let a = followed e l x (inside_of d s room Array row at q) _ y in
           meant_recast a.4 (group-meant Array a.2 q a.0 f r (H Array row at q a.0 a.1 a.2 hr (group-kind d row Array f) r.within a.3))
 
-      option-meant : (t : List ℕ) (c : Child) (at q e l : ℕ) (x : Single) → child_named d row t ≡ c → Reach s (a_string t ∷ []) p q → fits d row enum_form ≡ true → (value (option_for d c) at λ x. good q 0 (plain n x)) ≡ good e l x → Meant room n row p e x
-      option-meant t Nothing at q e l x m r f y = never y
-      option-meant t (At c) at q e l x m r f y =
+      option-meant : (t : List ℕ) (c : Option ℕ) (at q e l : ℕ) (x : Single) → child_named d row t ≡ c → Reach s (a_string t ∷ []) p q → fits d row enum_form ≡ true → (value (option_for d c) at λ x. good q 0 (plain n x)) ≡ good e l x → Meant room n row p e x
+      option-meant t None at q e l x m r f y = never y
+      option-meant t (Some c) at q e l x m r f y =
           let w = accepted_family d ok row hr (enum_parent d row (enum_kind d ok row f)) in
           let o = named-child d row t w c m in
-          meant_recast y (plain-meant (option (number_in d c)) (a_string t) q (ap (λ (u : Child). a_string (name d (row_of u))) o.2 ∙ ap a_string o.1) f (ap found o.2) tt r)
+          meant_recast y (plain-meant (option (number_in d c)) (a_string t) q (ap (λ (u : Option ℕ). a_string (name d (row_of u))) o.2 ∙ ap a_string o.1) f (ap found o.2) tt r)
 
       string-meant : (t : List ℕ) (b : Bool) (at q e l : ℕ) (x : Single) → is_enum d row ≡ b → well_spelt t ≡ true → Reach s (a_string t ∷ []) p q → fits d row (choose b (λ _. enum_form) (λ _. string_form)) ≡ true → body_at d s (inside_of d s room) n row (choose b (λ _. enum_form) (λ _. string_form)) at q (a_string t) ≡ good e l x → Meant room n row p e x
       unfolding scalar_for
@@ -270,9 +269,9 @@ module _ (d s : List ℕ) (ok : accepts d ≡ true) where
           let y' : good q 0 (plain n (string t)) ≡ good e l x = rw z at y in
           meant_recast y' (plain-meant (string t) (a_string t) q refl f refl v r)
 
-      integer-meant : (w : List ℕ) (i : Said) (at q e l : ℕ) (x : Single) → integer_said w ≡ i → integral w ≡ true → Reach s (an_integer w ∷ []) p q → fits d row integer_form ≡ true → (value (integer_for i) at λ x. good q 0 (plain n x)) ≡ good e l x → Meant room n row p e x
-      integer-meant w Wrong at q e l x m v r f y = never y
-      integer-meant w (Is i) at q e l x m v r f y =
+      integer-meant : (w : List ℕ) (i : Option Integer) (at q e l : ℕ) (x : Single) → integer_said w ≡ i → integral w ≡ true → Reach s (an_integer w ∷ []) p q → fits d row integer_form ≡ true → (value (integer_for i) at λ x. good q 0 (plain n x)) ≡ good e l x → Meant room n row p e x
+      integer-meant w None at q e l x m v r f y = never y
+      integer-meant w (Some i) at q e l x m v r f y =
           let o = told w i v m in
           meant_recast y (plain-meant (integer i) (an_integer w) q (ap an_integer o.text) f refl o.held r)
 

@@ -3,6 +3,7 @@
 --   TokenFails, Case   the lines of one token; what a move says
 --   turn-case          what the machine's move says
 --   steps-moved, fails-moved   and back
+use Rattle.std.specs.Prelude.{Option, Some, None}
 use mathlib.Core.Path.{◌≡◌, refl, sym, ap, ◌∙◌}
 use mathlib.Core.List.{List, [], ◌∷◌}
 use mathlib.Core.Bool.{Bool, true, false, not, ◌&&◌, ◌||◌, true≢false}
@@ -15,12 +16,9 @@ use Rattle.paper.specs.Refusals.{accepted, not_known, given_twice, not_in_base, 
 use Rattle.paper.specs.Checks.{choose}
 use Rattle.paper.proofs.Tests.{or_left, or_right, so_not, not_so}
 use Rattle.numbers.specs.declared.Integer.{Integer}
-use Rattle.numbers.specs.declared.Said.{Said}
-use Rattle.numbers.specs.declared.Said.TheVariants.{Wrong, Is}
 use Rattle.numbers.specs.Decimal.{decimal_of, integral, integer_said}
 use Rattle.numbers.proofs.Decimals.{text_says, told}
-use Rattle.dictionary.specs.declared.Child.{Child}
-use Rattle.dictionary.specs.declared.Child.TheVariants.{At, Nothing}
+use Rattle.std.specs.Prelude.{Option, Some, None}
 use Rattle.dictionary.specs.Formats.{set_form, array_form, null_form, enum_form, string_form, real_form}
 use Rattle.dictionary.specs.Rows.{number_in}
 use Rattle.dictionary.specs.Children.{child_named}
@@ -209,23 +207,23 @@ module _ (d : List ℕ) where
     group-case k g zero i z e = too_deep_at (child d f.row n) g (of_row n f up 0 e) i z
     group-case k g (suc room) i z e = opens_group n f up g room refl i z e refl
 
-    option-case : (t : List ℕ) (c : Child) → child_named d (child d f.row n) t ≡ c → is_enum d (child d f.row n) ≡ true → Suits d (child d f.row n) (a_string t) → Case (value_due n f up) (a_string t) (scalar_moved (option_for d c) (part_due (holding n f) up))
+    option-case : (t : List ℕ) (c : Option ℕ) → child_named d (child d f.row n) t ≡ c → is_enum d (child d f.row n) ≡ true → Suits d (child d f.row n) (a_string t) → Case (value_due n f up) (a_string t) (scalar_moved (option_for d c) (part_due (holding n f) up))
     unfolding Case TokenFails
-    option-case t Nothing e b z = no_option (child d f.row n) f.room t (of_row n f up f.room refl) z refl b e
-    option-case t (At c) e b z = tells n f up refl z (tells_option t c refl b e) refl
+    option-case t None e b z = no_option (child d f.row n) f.room t (of_row n f up f.room refl) z refl b e
+    option-case t (Some c) e b z = tells n f up refl z (tells_option t c refl b e) refl
 
     string-case : (t : List ℕ) (b : Bool) → is_enum d (child d f.row n) ≡ b → Suits d (child d f.row n) (a_string t) → Case (value_due n f up) (a_string t) (body_moved d n (child d f.row n) f up (choose b (λ _. enum_form) (λ _. string_form)) (a_string t))
     unfolding Case scalar_for
     string-case t true e z = rw e (option-case t (child_named d (child d f.row n) t) refl e z)
     string-case t false e z = rw e (tells n f up refl z (tells_string t refl e) refl)
 
-    no_clash : (v : List ℕ) (i : Integer) → integer_said v ≡ Wrong → integer_said v ≡ Is i → ⊥
+    no_clash : (v : List ℕ) (i : Integer) → integer_said v ≡ None → integer_said v ≡ Some i → ⊥
     no_clash v i e g = let z : ◌≡◌ {A = ℕ} 0 1 = cc in omega arith
 
-    integer-case : (v : List ℕ) (i : Said) → integer_said v ≡ i → integral v ≡ true → Suits d (child d f.row n) (an_integer v) → Case (value_due n f up) (an_integer v) (scalar_moved (integer_for i) (part_due (holding n f) up))
+    integer-case : (v : List ℕ) (i : Option Integer) → integer_said v ≡ i → integral v ≡ true → Suits d (child d f.row n) (an_integer v) → Case (value_due n f up) (an_integer v) (scalar_moved (integer_for i) (part_due (holding n f) up))
     unfolding Case TokenFails
-    integer-case v Wrong e h z = no_integer (child d f.row n) f.room v (of_row n f up f.room refl) z refl λ i g j. no_clash v i e (ap integer_said (sym j) ∙ text_says i g)
-    integer-case v (Is i) e h z = let o = told v i h e in tells n f up refl z (tells_integer i o.held (ap an_integer (sym o.text))) refl
+    integer-case v None e h z = no_integer (child d f.row n) f.room v (of_row n f up f.room refl) z refl λ i g j. no_clash v i e (ap integer_said (sym j) ∙ text_says i g)
+    integer-case v (Some i) e h z = let o = told v i h e in tells n f up refl z (tells_integer i o.held (ap an_integer (sym o.text))) refl
 
     body-case : (k : Token) → Known k → begins k ≡ true → Suits d (child d f.row n) k → Case (value_due n f up) k (body_moved d n (child d f.row n) f up (form_for d (child d f.row n) k) k)
     unfolding Case form_for scalar_for
@@ -270,15 +268,15 @@ module _ (d : List ℕ) where
       go true false false e f g = root_no_set refl e f λ z. so_not (eqb (form_for d 0 k) set_form) g (ap (λ (u : Token). eqb (form_for d 0 u) set_form) z)
 
   module _ (f : Frame) (up : List Frame) where
-    fresh-case : (t : List ℕ) (c : ℕ) → child_named d f.row t ≡ At c → (b : Bool) → fresh d f.row f.seen (number_in d c) ≡ b → Case (name_due f up) (a_string t) (choose b (λ _. goes (colon_due (number_in d c) f up)) (λ _. stops given_twice))
+    fresh-case : (t : List ℕ) (c : ℕ) → child_named d f.row t ≡ Some c → (b : Bool) → fresh d f.row f.seen (number_in d c) ≡ b → Case (name_due f up) (a_string t) (choose b (λ _. goes (colon_due (number_in d c) f up)) (λ _. stops given_twice))
     unfolding Case TokenFails
     fresh-case t c e true g = names f up t c refl refl e g refl
     fresh-case t c e false g = given_twice_at f up t c refl refl e g
 
-    child-case : (t : List ℕ) (c : Child) → child_named d f.row t ≡ c → Case (name_due f up) (a_string t) (child_moved d c f up)
+    child-case : (t : List ℕ) (c : Option ℕ) → child_named d f.row t ≡ c → Case (name_due f up) (a_string t) (child_moved d c f up)
     unfolding Case TokenFails
-    child-case t Nothing e = not_known_at f up t refl refl e
-    child-case t (At c) e = fresh-case t c e (fresh d f.row f.seen (number_in d c)) refl
+    child-case t None e = not_known_at f up t refl refl e
+    child-case t (Some c) e = fresh-case t c e (fresh d f.row f.seen (number_in d c)) refl
 
     name-case : (k : Token) → Case (name_due f up) k (name_moved d k f up)
     unfolding Case TokenFails in_turn
@@ -331,10 +329,10 @@ module _ (d : List ℕ) where
     opened_by g room i z e =
         body_by (ap begins i ∙ opens-begins g) z ∙ ap (λ (u : Token). body_moved d n row f up (form_for d row u) u) i ∙ opens-body n f up row g ∙ ap (λ (r : ℕ). group_moved r g row (holding n f ∷ up)) e
 
-    integer_by : (v : List ℕ) (r : Said) → k ≡ an_integer v → integer_said v ≡ r → Suits d row k → moved d x k ≡ scalar_moved (integer_for r) (part_due (holding n f) up)
+    integer_by : (v : List ℕ) (r : Option Integer) → k ≡ an_integer v → integer_said v ≡ r → Suits d row k → moved d x k ≡ scalar_moved (integer_for r) (part_due (holding n f) up)
     unfolding form_for scalar_for
     integer_by v r i e z =
-        body_by (ap begins i) z ∙ ap (λ (u : Token). body_moved d n row f up (form_for d row u) u) i ∙ ap (λ (u : Said). scalar_moved (integer_for u) (part_due (holding n f) up)) e
+        body_by (ap begins i) z ∙ ap (λ (u : Token). body_moved d n row f up (form_for d row u) u) i ∙ ap (λ (u : Option Integer). scalar_moved (integer_for u) (part_due (holding n f) up)) e
 
     string_by : (t : List ℕ) (b : Bool) (v : Valued) → k ≡ a_string t → is_enum d row ≡ b → (choose b (λ _. option_for d (child_named d row t)) (λ _. worth (string t))) ≡ v → Suits d row k → moved d x k ≡ scalar_moved v (part_due (holding n f) up)
     unfolding form_for scalar_for
@@ -350,7 +348,7 @@ module _ (d : List ℕ) where
     unfolding form_for scalar_for
     told_by_lem z (tells_null i) = body_by (ap begins i) z ∙ ap (λ (u : Token). body_moved d n row f up (form_for d row u) u) i
     told_by_lem z (tells_boolean b i) = body_by (ap begins i) z ∙ ap (λ (u : Token). body_moved d n row f up (form_for d row u) u) i
-    told_by_lem z (tells_integer j h i) = integer_by (decimal_of j) (Is j) i (text_says j h) z
+    told_by_lem z (tells_integer j h i) = integer_by (decimal_of j) (Some j) i (text_says j h) z
     told_by_lem z (tells_option t c i b e) = string_by t true (worth (option (number_in d c))) i b (ap (option_for d) e) z
     told_by_lem z (tells_string t i b) = string_by t false (worth (string t)) i b refl z
 
@@ -383,11 +381,11 @@ module _ (d : List ℕ) where
   misfit-moved x k (misfitting row room o b a c e) = stopped_by x k o.number o.frame o.around row o.here o.row_is misfit b (based-misfit d row k false a c e) refl
 
   wrong-moved : (x : Spot) (k : Token) → Known k → ValueWrong d x k → moved d x k ≡ stops value_wrong
-  wrong-moved x k h (no_integer row room v o z i a) = integer_by x k o.number o.frame o.around row o.here o.row_is v Wrong i (go (integer_said v) refl) z
+  wrong-moved x k h (no_integer row room v o z i a) = integer_by x k o.number o.frame o.around row o.here o.row_is v None i (go (integer_said v) refl) z
     where
-      go : (r : Said) → integer_said v ≡ r → integer_said v ≡ Wrong
-      go Wrong e = e
-      go (Is j) e = let y = told v j (rw i at h) e in absurd (a j y.held y.text)
+      go : (r : Option Integer) → integer_said v ≡ r → integer_said v ≡ None
+      go None e = e
+      go (Some j) e = let y = told v j (rw i at h) e in absurd (a j y.held y.text)
   wrong-moved x k h (no_option row room t o z i b e) = string_by x k o.number o.frame o.around row o.here o.row_is t true (wrong value_wrong) i b (ap (option_for d) e) z
 
   deep-moved : (x : Spot) (k : Token) → TooDeep d x k → moved d x k ≡ stops too_deep

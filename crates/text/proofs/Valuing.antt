@@ -16,7 +16,7 @@ use Rattle.paper.specs.Refusals.{accepted}
 use Rattle.paper.specs.Checks.{Judged, good}
 use Rattle.paper.proofs.Tests.{and-not-left, and-not-right}
 use Rattle.numbers.proofs.Decimals.{text_says}
-use Rattle.dictionary.specs.declared.Child.TheVariants.{At}
+use Rattle.std.specs.Prelude.{Some}
 use Rattle.dictionary.specs.Formats.{set_form, null_form, enum_form, string_form, real_form}
 use Rattle.dictionary.specs.Rows.{entries, kind, first_child, name}
 use Rattle.dictionary.specs.Children.{child_numbered, child_named}
@@ -135,7 +135,7 @@ module _ (d s : List ℕ) (ok : accepts d ≡ true) where
       let c = child-set d row w n k l in
       let a = next_complete s p (a_string (name d (child d row n))) (a_sign colon ∷ r) (name-spelt d ok (child d row n) (omega (arith, c, w.within))) tt y in
       let b = next_complete s a.0 (a_sign colon) r colon-sign tt a.1.rest in
-      let g : child_named d row (name d (child d row n)) ≡ At (first_child d row + n) = ap (λ (v : ℕ). child_named d row (name d v)) c ∙ named-known d row n w m l in
+      let g : child_named d row (name d (child d row n)) ≡ Some (first_child d row + n) = ap (λ (v : ℕ). child_named d row (name d v)) c ∙ named-known d row n w m l in
       record {
         place = b.0;
         is = rw (a.1.is, g, w.each_in_turn n l, f, b.1.is);

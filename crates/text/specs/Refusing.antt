@@ -6,7 +6,7 @@
 --   Somewhere P w           a spot that is reached fails as P says, with the place w
 --   Right, Followed, Overlong   all right; 13 and 14
 --   Line d s room k w       the table: when number k is given, and with which place w
-use Rattle.std.specs.Prelude.{ℕ, suc, ◌+◌, ◌<◌, ◌≤◌, ◌≡◌, List, [], true, false, ◌||◌, length, take}
+use Rattle.std.specs.Prelude.{ℕ, suc, ◌+◌, ◌<◌, ◌≤◌, ◌≡◌, List, [], true, false, ◌||◌, length, take, Some, None}
 use Rattle.std.proofs.Math.Seq.{slice}
 use Rattle.paper.specs.Limits.{payload_most, text_least, text_most, depth_most}
 use Rattle.paper.specs.Refusals.{dictionary_wrong, length_wrong, not_known, given_twice, not_in_base, misfit, value_wrong, too_deep, after_root, no_room, bad_text}
@@ -15,7 +15,6 @@ use Rattle.numbers.specs.declared.Integer.{Integer}
 use Rattle.numbers.specs.Bytes.{byte}
 use Rattle.numbers.specs.Integer.{Held}
 use Rattle.numbers.specs.Decimal.{decimal_of, integral}
-use Rattle.dictionary.specs.declared.Child.TheVariants.{At, Nothing}
 use Rattle.dictionary.specs.Rows.{number_in}
 use Rattle.dictionary.specs.Children.{child_named}
 use Rattle.dictionary.specs.Accepts.{accepts}
@@ -56,11 +55,11 @@ pub record OfRow (d : List ℕ) (x : Spot) (row room : ℕ) : Type 0 where
 module _ (d : List ℕ) (x : Spot) (k : Token) where
   -- "6: .. name not known"
   pub data NotKnown : Type 0 where
-    not_known_at : (f : Frame) (up : List Frame) (t : List ℕ) → x ≡ name_due f up → k ≡ a_string t → child_named d f.row t ≡ Nothing → NotKnown
+    not_known_at : (f : Frame) (up : List Frame) (t : List ℕ) → x ≡ name_due f up → k ≡ a_string t → child_named d f.row t ≡ None → NotKnown
 
   -- "7: child given twice in one set"
   pub data GivenTwice : Type 0 where
-    given_twice_at : (f : Frame) (up : List Frame) (t : List ℕ) (c : ℕ) → x ≡ name_due f up → k ≡ a_string t → child_named d f.row t ≡ At c → fresh d f.row f.seen (number_in d c) ≡ false → GivenTwice
+    given_twice_at : (f : Frame) (up : List Frame) (t : List ℕ) (c : ℕ) → x ≡ name_due f up → k ≡ a_string t → child_named d f.row t ≡ Some c → fresh d f.row f.seen (number_in d c) ≡ false → GivenTwice
 
   -- "8: .. format or number kind not in the base"
   pub data NotInBase : Type 0 where
@@ -76,7 +75,7 @@ module _ (d : List ℕ) (x : Spot) (k : Token) where
   -- "10: value wrong: integer .. range, .. enum option"; "`-0` is 10"
   pub data ValueWrong : Type 0 where
     no_integer : (row room : ℕ) (v : List ℕ) → OfRow d x row room → Suits d row k → k ≡ an_integer v → ((i : Integer) → Held i → decimal_of i ≡ v → ⊥) → ValueWrong
-    no_option : (row room : ℕ) (t : List ℕ) → OfRow d x row room → Suits d row k → k ≡ a_string t → is_enum d row ≡ true → child_named d row t ≡ Nothing → ValueWrong
+    no_option : (row room : ℕ) (t : List ℕ) → OfRow d x row room → Suits d row k → k ≡ a_string t → is_enum d row ≡ true → child_named d row t ≡ None → ValueWrong
 
   -- "11: depth passed"
   pub data TooDeep : Type 0 where

@@ -7,13 +7,12 @@
 --   Suits, Tells       a value's token suits a row; and, where it opens nothing, tells a scalar there
 --   Steps d x k y      the token k is right where x is due, and y is due after it
 --   Reached d s x p    all tokens of s before the place p are right, and x is due there
-use Rattle.std.specs.Prelude.{ℕ, suc, ◌-◌, ◌≡◌, List, [], ◌∷◌, Bool, true, false, ◌||◌}
+use Rattle.std.specs.Prelude.{ℕ, suc, ◌-◌, ◌≡◌, List, [], ◌∷◌, Bool, true, false, ◌||◌, Some}
 use Rattle.paper.specs.Limits.{depth_most}
 use Rattle.paper.specs.Checks.{choose, good}
 use Rattle.numbers.specs.declared.Integer.{Integer}
 use Rattle.numbers.specs.Integer.{Held}
 use Rattle.numbers.specs.Decimal.{decimal_of}
-use Rattle.dictionary.specs.declared.Child.TheVariants.{At}
 use Rattle.dictionary.specs.Rows.{number_in}
 use Rattle.dictionary.specs.Children.{child_named}
 use Rattle.payload.specs.declared.Shape.{Shape}
@@ -123,12 +122,12 @@ module _ (d : List ℕ) where
     tells_null : k ≡ a_null → Tells row k
     tells_boolean : (b : Bool) → k ≡ a_boolean b → Tells row k
     tells_integer : (i : Integer) → Held i → k ≡ an_integer (decimal_of i) → Tells row k
-    tells_option : (t : List ℕ) (c : ℕ) → k ≡ a_string t → is_enum d row ≡ true → child_named d row t ≡ At c → Tells row k
+    tells_option : (t : List ℕ) (c : ℕ) → k ≡ a_string t → is_enum d row ≡ true → child_named d row t ≡ Some c → Tells row k
     tells_string : (t : List ℕ) → k ≡ a_string t → is_enum d row ≡ false → Tells row k
 
   pub data Steps (x : Spot) (k : Token) (y : Spot) : Type 0 where
     opens_root : x ≡ root_due → k ≡ a_sign (opens Set) → y ≡ first_due (entered Set 0 (depth_most - 1)) [] → Steps x k y
-    names : (f : Frame) (up : List Frame) (t : List ℕ) (c : ℕ) → x ≡ name_due f up → k ≡ a_string t → child_named d f.row t ≡ At c → fresh d f.row f.seen (number_in d c) ≡ true → y ≡ colon_due (number_in d c) f up → Steps x k y
+    names : (f : Frame) (up : List Frame) (t : List ℕ) (c : ℕ) → x ≡ name_due f up → k ≡ a_string t → child_named d f.row t ≡ Some c → fresh d f.row f.seen (number_in d c) ≡ true → y ≡ colon_due (number_in d c) f up → Steps x k y
     binds : (n : ℕ) (f : Frame) (up : List Frame) → x ≡ colon_due n f up → k ≡ a_sign colon → y ≡ value_due n f up → Steps x k y
     tells : (n : ℕ) (f : Frame) (up : List Frame) → x ≡ value_due n f up → Suits (child d f.row n) k → Tells (child d f.row n) k → y ≡ part_due (holding n f) up → Steps x k y
     opens_group : (n : ℕ) (f : Frame) (up : List Frame) (g : Shape) (room : ℕ) → x ≡ value_due n f up → k ≡ a_sign (opens g) → Suits (child d f.row n) k → f.room ≡ suc room → y ≡ first_due (entered g (child d f.row n) room) (holding n f ∷ up) → Steps x k y

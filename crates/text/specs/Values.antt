@@ -5,14 +5,11 @@
 --   form_for           the format that a token is written with at a row
 --   misfit_for         the refusal of a format at a row, or `accepted`
 --   scalar_for         the scalar that a token says at a row, or refusal 10
-use Rattle.std.specs.Prelude.{ℕ, List, Bool, true, false, not, ◌&&◌, ◌||◌, eqb}
+use Rattle.std.specs.Prelude.{ℕ, List, Bool, true, false, not, ◌&&◌, ◌||◌, eqb, Option, Some, None}
 use Rattle.paper.specs.Refusals.{accepted, not_in_base, misfit, value_wrong}
 use Rattle.paper.specs.Checks.{choose}
-use Rattle.numbers.specs.declared.Said.{Said}
-use Rattle.numbers.specs.declared.Said.TheVariants.{Wrong, Is}
+use Rattle.numbers.specs.declared.Integer.{Integer}
 use Rattle.numbers.specs.Decimal.{integer_said}
-use Rattle.dictionary.specs.declared.Child.{Child}
-use Rattle.dictionary.specs.declared.Child.TheVariants.{At, Nothing}
 use Rattle.dictionary.specs.Formats.{set_form, array_form, null_form, integer_form, enum_form, string_form, real_form, boolean_form}
 use Rattle.dictionary.specs.Rows.{kind, number_in}
 use Rattle.dictionary.specs.Children.{child_named}
@@ -69,14 +66,14 @@ misfit_for d row f =
     unfit_for d row f
 
 -- "Integers hold what 8 bytes hold; `-0` is 10."
-abbrev pub integer_for : Said → Valued
-integer_for Wrong = wrong value_wrong
-integer_for (Is i) = worth (integer i)
+abbrev pub integer_for : Option Integer → Valued
+integer_for None = wrong value_wrong
+integer_for (Some i) = worth (integer i)
 
 -- "value wrong: .. enum option"
-abbrev pub option_for : List ℕ → Child → Valued
-option_for d Nothing = wrong value_wrong
-option_for d (At c) = worth (option (number_in d c))
+abbrev pub option_for : List ℕ → Option ℕ → Valued
+option_for d None = wrong value_wrong
+option_for d (Some c) = worth (option (number_in d c))
 
 -- signs and reals don't come this far
 unfoldable pub scalar_for : List ℕ → ℕ → Token → Valued

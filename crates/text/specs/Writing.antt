@@ -6,11 +6,10 @@
 --   run, inside_of              members up to the bracket that closes them, and an object or array after the one that opens it
 --   root_at, tree_of             the root, and the tree of the text
 --   writes d s room            the answer to a call; number, place, count, length and buffer come from it as the reader's do
-use Rattle.std.specs.Prelude.{ℕ, zero, suc, List, [], ◌∷◌, Bool, true, false, not, ◌||◌, length, ltb, leb, eqb}
+use Rattle.std.specs.Prelude.{ℕ, zero, suc, List, [], ◌∷◌, Bool, true, false, not, ◌||◌, length, ltb, leb, eqb, Option}
 use Rattle.paper.specs.Limits.{payload_most, text_least, text_most, depth_most}
 use Rattle.paper.specs.Refusals.{accepted, dictionary_wrong, length_wrong, not_known, given_twice, not_in_base, misfit, too_deep, after_root, bad_text}
 use Rattle.paper.specs.Checks.{choose, Judged, refused, good, refuse, need, after}
-use Rattle.dictionary.specs.declared.Child.{Child}
 use Rattle.dictionary.specs.Formats.{set_form, real_form}
 use Rattle.dictionary.specs.Rows.{number_in}
 use Rattle.dictionary.specs.Children.{child_named}
@@ -43,7 +42,7 @@ parted_at s g p =
 
 module _ (d s : List ℕ) where
   -- "then for a name 6": c is the child of that name, whose number the member has
-  abbrev pub child_for : Child → ℕ → ℕ → Judged ℕ
+  abbrev pub child_for : Option ℕ → ℕ → ℕ → Judged ℕ
   child_for c at q =
       need (found c) not_known at λ _.
       good q 0 (number_in d (row_of c))

@@ -3,6 +3,7 @@
 --   slots_suffice  what the first pass keeps of a payload within the table's limit has room in the slots
 use Prim.Native.Nat.{ℕ, ◌+◌, ◌^◌, ◌≤◌, ◌<◌}
 use mathlib.Core.Path.{◌≡◌, refl, sym, ap, ◌∙◌}
+use mathlib.Core.Logic.{◌⊎◌, inl, inr}
 use mathlib.Core.List.{List, ◌++◌}
 use mathlib.Core.Bool.{Bool, true, false, not, ◌||◌}
 use native.Mathlib.Omega.{arith}
@@ -14,10 +15,15 @@ use borrow.Author.Tests.{lt-ltb, le-ltb, ltb-false, not-true, not-false}
 use Rattle.paper.specs.Limits.{payload_least, payload_most, text_least, text_most, depth_most}
 use Rattle.paper.specs.Refusals.{accepted, dictionary_wrong, length_wrong, no_room}
 use Rattle.paper.specs.Checks.{choose, Judged, refused, good}
-use Rattle.paper.specs.declared.Answer.{Answer}
+use Rattle.std.specs.Prelude.{Ok, Err}
+use Rattle.paper.specs.declared.Refusal.TheVariants.{DictionaryWrong, LengthWrong, NoRoom}
+use Rattle.paper.specs.declared.Refused.{Refused}
+use Rattle.paper.specs.Refusal.{number_of, Answer, told}
 use Rattle.paper.proofs.Tests.{or_left, or_right}
 use Rattle.numbers.specs.Met.{wrote, Wrote}
-use Rattle.numbers.proofs.Writing.{joined, as_long, renamed}
+use Rattle.numbers.specs.declared.output.Output.{Output}
+use Rattle.numbers.specs.Output.{Added}
+use Rattle.numbers.proofs.Adding.{joined, as_long, renamed}
 use Rattle.dictionary.specs.Accepts.{accepts}
 use Rattle.dictionary.proofs.Laws.{accepted_header}
 use Rattle.payload.specs.Tree.{Tuples, count}
@@ -29,24 +35,15 @@ use Rattle.payload.specs.Answered.{Answered}
 use Rattle.text.specs.Shortest.{shortest, payload_of}
 use Rattle.text.specs.Writing.{tree_of, spoken, writes}
 use Rattle.writer_parse.specs.Met.{Site}
-use Rattle.writer_judge.specs.declared.Measure.{Measure}
-use Rattle.writer_judge.specs.declared.Measure.TheVariants.{Refused, Sized}
-use Rattle.writer_judge.specs.Met.{root_measure, RootStored, Bound, JudgeMet}
+use Rattle.writer_judge.specs.declared.Measure as code
+use Rattle.writer_judge.specs.Met.{measured, root_measure, RootStored, Bound, JudgeMet}
+use Rattle.writer_judge.specs.Met as judged
 use Rattle.writer_sizes.specs.Plan.{alone, plan, slots_most}
 use Rattle.writer_sizes.proofs.Trees.{group-bytes, group-count}
 use Rattle.writer_sizes.proofs.Plans.{plan-few}
 use Rattle.writer_render.specs.declared.Place.{Place}
 use Rattle.writer_render.specs.Met.{Ready, Rendered}
 use Rattle.writer_render.proofs.Laying.{ready, known-put}
-
-module _ (room long : ℕ) where
-  pub over-room : room < long → true ≡ ltb room long || ltb payload_most long
-  over-room h = rw (lt-ltb room long h)
-
-  pub over-most : long ≤ room → ltb payload_most long ≡ ltb room long || ltb payload_most long
-  over-most h = rw (le-ltb room long h)
-
-pub ruleset overs = (over-room, over-most)
 
 -- the tuple of a payload's root
 abbrev root : Tuples → Tuples
@@ -63,11 +60,11 @@ pub slots_suffice : (t : Tuples) → length (payload_of t) ≤ payload_most → 
 slots_suffice t h = omega (arith, payload-long t, plan-few (root t))
 
 -- what the first pass says of the whole answer
-tree-refused : (x : Judged Tuples) (k w : ℕ) → Refused k w ≡ root_measure x → x ≡ refused k w
+tree-refused : (x : Judged Tuples) (k w : ℕ) → judged.Refused k w ≡ root_measure x → x ≡ refused k w
 tree-refused (refused a b) k w e = cc
 tree-refused (good q l t) k w e = absurd (let z : ◌≡◌ {A = ℕ} 0 1 = cc in omega arith)
 
-record Found (d s old new : List ℕ) (long tuples : ℕ) : Type 0 where
+pub record Found (d s old new : List ℕ) (long tuples : ℕ) : Type 0 where
   end : ℕ
   left : ℕ
   tree : Tuples
@@ -76,7 +73,7 @@ record Found (d s old new : List ℕ) (long tuples : ℕ) : Type 0 where
   counts : tuples ≡ root_count d tree
   laid : new ≡ sets old 0 (plan (root tree))
 
-found_by : (d s old new : List ℕ) (q next long tuples : ℕ) (x : Judged Tuples) → tree_of d s ≡ x → Sized q next long tuples ≡ root_measure x → RootStored old x new → Found d s old new long tuples
+found_by : (d s old new : List ℕ) (q next long tuples : ℕ) (x : Judged Tuples) → tree_of d s ≡ x → judged.Sized q next long tuples ≡ root_measure x → RootStored old x new → Found d s old new long tuples
 found_by d s old new q next long tuples (refused a b) f e h = absurd (let z : ◌≡◌ {A = ℕ} 0 1 = cc in omega arith)
 found_by d s old new q next long tuples (good z l t) f e h =
     let b : long ≡ length (shortest (root t)) = cc in
@@ -93,63 +90,67 @@ module _ (d s old : List ℕ) where
   spoke : (x : Outcome) → spoken d (length old) (tree_of d s) ≡ x → (r : Answer) (new : List ℕ) → r ≡ answer_of x → new ≡ contents_of x old → Answered (spoken d (length old) (tree_of d s)) old r new
   spoke x f r new g h = record { answer = g ∙ ap answer_of (sym f); contents = h ∙ ap (λ (y : Outcome). contents_of y old) (sym f) }
 
-  module _ (slots : List ℕ) (y : Measure) (kept : List ℕ) (h : JudgeMet d s slots y kept) where
-    pub written-refused : (k w : ℕ) (r : Answer) → y ≡ Refused k w → r ≡ answer_of (refusal k w) → Answered (spoken d (length old) (tree_of d s)) old r old
-    written-refused k w r e g = spoke (refusal k w) (ap (spoken d (length old)) (tree-refused (tree_of d s) k w (sym e ∙ h.same))) r old g refl
+  module _ (slots kept : List ℕ) where
+    pub written-refused : (k : Refused) → JudgeMet d s slots (measured (Err k)) kept → Answered (spoken d (length old) (tree_of d s)) old (told (Err k)) old
+    written-refused k h =
+        spoke (refusal (number_of k.refusal) k.place) (ap (spoken d (length old)) (tree-refused (tree_of d s) (number_of k.refusal) k.place h.same)) _ old refl refl
 
-    module _ (q next long tuples : ℕ) (e : y ≡ Sized q next long tuples) where
-      bound : Bound s 0 0 q next long tuples
-      bound = rw e at h.bound
+    module _ (m : code.Measure) (h : JudgeMet d s slots (measured (Ok m)) kept) where
+      bound : Bound s 0 0 m.next m.slot m.long m.tuples
+      bound = h.bound
 
-      pub written-fits : Site d s 0 0 → payload_least + long < 2 ^ 64
+      pub written-fits : Site d s 0 0 → payload_least + m.long < 2 ^ 64
       written-fits st = omega (arith, bound.bytes, bound.within, st.short)
 
-      told : Found d s slots kept long tuples
-      told = found_by d s slots kept q next long tuples (tree_of d s) refl (sym e ∙ h.same) h.stored
+      pub one : Found d s slots kept m.long m.tuples
+      one = found_by d s slots kept m.next m.slot m.long m.tuples (tree_of d s) refl h.same h.stored
 
-      fitting : (b : Bool) → b ≡ (ltb (length old) (payload_least + long) || ltb payload_most (payload_least + long)) → spoken d (length old) (tree_of d s) ≡ choose b (λ _. refusal no_room 0) (λ _. result (payload_of told.tree) (root_count d told.tree))
-      fitting b g = let m = told.measures in ap (spoken d (length old)) told.found ∙ rw (g, m)
+      fitting : (b : Bool) → b ≡ (ltb (length old) (payload_least + m.long) || ltb payload_most (payload_least + m.long)) → spoken d (length old) (tree_of d s) ≡ choose b (λ _. refusal no_room 0) (λ _. result (payload_of one.tree) (root_count d one.tree))
+      fitting b g = let x = one.measures in ap (spoken d (length old)) one.found ∙ rw (g, x)
 
-      module _ (b : Bool) (g : b ≡ (ltb (length old) (payload_least + long) || ltb payload_most (payload_least + long))) where
-        pub written_tight : b ≡ true → (r : Answer) → r ≡ answer_of (refusal no_room 0) → Answered (spoken d (length old) (tree_of d s)) old r old
-        written_tight f r a = spoke (refusal no_room 0) (fitting true (sym f ∙ g)) r old a refl
+      module _ (b : Bool) (g : b ≡ (ltb (length old) (payload_least + m.long) || ltb payload_most (payload_least + m.long))) where
+        pub written_tight : b ≡ true → (k : Refused) → k.refusal ≡ NoRoom → k.place ≡ 0 → Answered (spoken d (length old) (tree_of d s)) old (told (Err k)) old
+        written_tight f k r z = spoke (refusal no_room 0) (fitting true (sym f ∙ g)) (told (Err k)) old (rw (r, z)) refl
 
         module _ (f : b ≡ false) where
-          roomy : payload_least + long ≤ length old
-          roomy = ltb-false (length old) (payload_least + long) (or_left (ltb (length old) (payload_least + long)) (ltb payload_most (payload_least + long)) (sym g ∙ f))
+          roomy : payload_least + m.long ≤ length old
+          roomy = ltb-false (length old) (payload_least + m.long) (or_left (ltb (length old) (payload_least + m.long)) (ltb payload_most (payload_least + m.long)) (sym g ∙ f))
 
-          few : payload_least + long ≤ payload_most
-          few = ltb-false payload_most (payload_least + long) (or_right (ltb (length old) (payload_least + long)) (ltb payload_most (payload_least + long)) (sym g ∙ f))
+          few : payload_least + m.long ≤ payload_most
+          few = ltb-false payload_most (payload_least + m.long) (or_right (ltb (length old) (payload_least + m.long)) (ltb payload_most (payload_least + m.long)) (sym g ∙ f))
 
-          pub written_header : payload_least ≤ length old
+          pub written_header : 0 + length (header_with 0 0) ≤ length old
           written_header = omega (arith, roomy)
 
-          module _ (at : ℕ) (mid : List ℕ) (w : Wrote old 0 (header_with 0 0) at mid) where
-            holds : slots ≡ replicate slots_most 0 → kept ≡ plan (root told.tree) ++ drop (length (plan (root told.tree))) slots
-            holds i =
-                let p = plan (root told.tree) in
-                let j : length slots ≡ slots_most = ap length i ∙ length-replicate {A = ℕ} slots_most 0 in
-                let z : length p ≤ slots_most = slots_suffice told.tree (omega (arith, few, told.measures)) in
-                told.laid ∙ sets-eq p slots 0 (omega arith) ∙ ap (λ (k : ℕ). p ++ drop k slots) (zero-add (length p))
+          holds : slots ≡ replicate slots_most 0 → kept ≡ plan (root one.tree) ++ drop (length (plan (root one.tree))) slots
+          holds i =
+              let p = plan (root one.tree) in
+              let j : length slots ≡ slots_most = ap length i ∙ length-replicate {A = ℕ} slots_most 0 in
+              let z : length p ≤ slots_most = slots_suffice one.tree (omega (arith, few, one.measures)) in
+              one.laid ∙ sets-eq p slots 0 (omega arith) ∙ ap (λ (k : ℕ). p ++ drop k slots) (zero-add (length p))
 
-            pub written-ready : slots ≡ replicate slots_most 0 → Site d s 0 0 → Ready d s depth_most 0 0 0 kept 0 mid at
-            written-ready i st =
-                let t = told.tree in
-                ready d s depth_most 0 0 0 told.end 0 (group 0 Set t) (h.ready told.end told.left t told.found) kept 0 mid at (drop (length (plan (root t))) slots) st (omega arith) (holds i)
-                (omega (arith, few, told.measures, payload-long t))
-                (omega (arith, roomy, told.measures, payload-long t, w.place, as_long w))
+          module _ (o o' : Output) (w : Added o (header_with 0 0) o') where
+            pub written-ready : o.pos ≡ 0 → o.buf.now ≡ old → slots ≡ replicate slots_most 0 → Site d s 0 0 → Ready d s kept depth_most 0 0 (record { at = 0; slot = 0 }) o'
+            written-ready z e i st =
+                let t = one.tree in
+                ready d s depth_most 0 0 0 one.end 0 (group 0 Set t) (h.ready one.end one.left t one.found) 0 o' kept (drop (length (plan (root t))) slots) st (omega arith) (holds i)
+                (omega (arith, few, one.measures, payload-long t))
+                (omega (arith, roomy, one.measures, payload-long t, z, ap length e, w.wrote.place, as_long w))
 
-            pub written-good : (r : Place) (new : List ℕ) → Rendered d s depth_most 0 0 0 0 mid at r new → Answered (spoken d (length old) (tree_of d s)) old (record { number = accepted; place = 0; count = tuples; length = r.pos }) new
-            unfolding wrote
-            written-good r new E =
-                let t = told.tree in
-                let x = payload_of t in
-                let v : Wrote old 0 x r.pos new = renamed (root-payload t) (joined w (known-put d s depth_most 0 0 0 told.end 0 (group 0 Set t) (h.ready told.end told.left t told.found) 0 mid at r new E)) in
-                let a : r.pos ≡ length x = v.place ∙ zero-add (length x) in
-                let c : new ≡ x ++ drop (length x) old = v.left ∙ sets-eq x old 0 (omega (arith, roomy, told.measures)) ∙ ap (λ (i : ℕ). x ++ drop i old) (zero-add (length x)) in
-                spoke (result x (root_count d t)) (fitting false (sym f ∙ g)) _ new (alike tuples (root_count d t) r.pos (length x) told.counts a) c
+            pub written-whole : (r : Place) (o'' : Output) → Rendered d s depth_most 0 0 (record { at = 0; slot = 0 }) o' r o'' → Added o (payload_of one.tree) o''
+            written-whole r o'' E =
+                let t = one.tree in
+                renamed (root-payload t) (joined w (known-put d s depth_most 0 0 0 one.end 0 (group 0 Set t) (h.ready one.end one.left t one.found) 0 o' r o'' E))
 
-pub ruleset writings = (written-refused, written-fits, written_tight, written_header, written-ready, written-good)
+          pub written-good : (pos : ℕ) (new : List ℕ) → Wrote old 0 (payload_of one.tree) pos new → Answered (spoken d (length old) (tree_of d s)) old (told (Ok (record { count = m.tuples; length = pos }))) new
+          unfolding wrote
+          written-good pos new v =
+              let x = payload_of one.tree in
+              let a : pos ≡ length x = v.place ∙ zero-add (length x) in
+              let c : new ≡ x ++ drop (length x) old = v.left ∙ sets-eq x old 0 (omega (arith, roomy, one.measures)) ∙ ap (λ (i : ℕ). x ++ drop i old) (zero-add (length x)) in
+              spoke (result x (root_count d one.tree)) (fitting false (sym f ∙ g)) _ new (alike m.tuples (root_count d one.tree) pos (length x) one.counts a) c
+
+pub ruleset writings = (written-refused, written-fits, written_tight, written_header, written-ready)
 
 -- "1, 2, 3 are tested in that order before the root": a text has no header, and so no 3
 module _ (d s old : List ℕ) where
@@ -157,20 +158,17 @@ module _ (d s old : List ℕ) where
   answered x f r new g h = record { answer = g ∙ ap answer_of (sym f); contents = h ∙ ap (λ (y : Outcome). contents_of y old) (sym f) }
 
   module _ (t : Bool) (a : t ≡ accepts d) where
-    pub write-unread : not t ≡ true → (r : Answer) → r ≡ answer_of (refusal dictionary_wrong 0) → Answered (writes d s (length old)) old r old
+    pub write-unread : not t ≡ true → (k : Refused) → k.refusal ≡ DictionaryWrong → k.place ≡ 0 → Answered (writes d s (length old)) old (told (Err k)) old
     unfolding writes
-    write-unread n r g = answered (refusal dictionary_wrong 0) (rw (← a, not-true t n)) r old g refl
+    write-unread n k f g = answered (refusal dictionary_wrong 0) (rw (← a, not-true t n)) (told (Err k)) old (rw (f, g)) refl
 
     module _ (n : not t ≡ false) where
-      pub write-short : length s < text_least → (r : Answer) → r ≡ answer_of (refusal length_wrong 0) → Answered (writes d s (length old)) old r old
+      pub write-outside : (length s < text_least) ⊎ ((text_least ≤ length s) × (text_most < length s)) → (k : Refused) → k.refusal ≡ LengthWrong → k.place ≡ 0 → Answered (writes d s (length old)) old (told (Err k)) old
       unfolding writes
-      write-short h r g = answered (refusal length_wrong 0) (rw (← a, not-false t n, lt-ltb (length s) text_least h)) r old g refl
+      write-outside (inl h) k f g = answered (refusal length_wrong 0) (rw (← a, not-false t n, lt-ltb (length s) text_least h)) (told (Err k)) old (rw (f, g)) refl
+      write-outside (inr (h, l)) k f g = answered (refusal length_wrong 0) (rw (← a, not-false t n, le-ltb (length s) text_least h, lt-ltb text_most (length s) l)) (told (Err k)) old (rw (f, g)) refl
 
       module _ (h : text_least ≤ length s) where
-        pub write-long : text_most < length s → (r : Answer) → r ≡ answer_of (refusal length_wrong 0) → Answered (writes d s (length old)) old r old
-        unfolding writes
-        write-long l r g = answered (refusal length_wrong 0) (rw (← a, not-false t n, le-ltb (length s) text_least h, lt-ltb text_most (length s) l)) r old g refl
-
         module _ (l : length s ≤ text_most) where
           pub write-site : Site d s 0 0
           write-site =
@@ -181,4 +179,4 @@ module _ (d s old : List ℕ) where
           unfolding writes
           write-on r new w = answered (spoken d (length old) (tree_of d s)) (rw (← a, not-false t n, le-ltb (length s) text_least h, le-ltb text_most (length s) l)) r new w.answer w.contents
 
-pub ruleset entries = (write-unread, write-short, write-long, write-site, write-on)
+pub ruleset entries = (write-unread, write-outside, write-site, write-on)

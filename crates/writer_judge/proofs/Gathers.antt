@@ -6,10 +6,14 @@ use mathlib.Core.List.{List, [], ◌∷◌, ◌++◌}
 use native.Mathlib.Omega.{arith}
 use native.Mathlib.Nat.{add-zero}
 use native.Mathlib.Numerals.{add-one}
-use lib.ListN.{length, set, replicate, length-append}
+use lib.ListN.{length, set, length-append}
 use lib.Seq.{sets, length-sets, set_comm}
 use borrow.Author.Tests.{le-leb}
+use Rattle.std.specs.Prelude.{Result, Ok, Err}
+use Rattle.paper.specs.declared.Refused as paper
+use Rattle.paper.specs.declared.Refusal.TheVariants.{BadText}
 use Rattle.paper.specs.Refusals.{bad_text}
+use Rattle.paper.specs.Refusal as table
 use Rattle.paper.specs.Checks.{choose, Judged, refused, good, after}
 use Rattle.numbers.specs.Number.{number_of}
 use Rattle.numbers.proofs.Numbers.{number-few}
@@ -18,7 +22,7 @@ use Rattle.payload.specs.declared.Shape.{Shape}
 use Rattle.payload.specs.declared.Shape.TheVariants.{Set, Array}
 use Rattle.payload.specs.Fits.{child}
 use Rattle.payload.specs.Reading.{Single, group, number_for, before}
-use Rattle.repeats.specs.Roll.{roll_bytes, Kept}
+use Rattle.repeats.specs.Roll.{Blank, Kept}
 use Rattle.repeats.proofs.Rolls.{keep-start}
 use Rattle.text.specs.Shortest.{shortest}
 use Rattle.text.specs.Scanning.{past, token_at}
@@ -27,22 +31,20 @@ use Rattle.text.specs.Writing.{name_at, parted_at, key_at, value_at, member_at, 
 use Rattle.text.proofs.Cutting.{past-least}
 use Rattle.writer_parse.specs.declared.Value.{Value}
 use Rattle.writer_parse.specs.declared.Head.{Head}
-use Rattle.writer_parse.specs.declared.Head.TheVariants as head
+use Rattle.writer_parse.specs.declared.Head.TheVariants.{Leaf, Many}
 use Rattle.writer_parse.specs.declared.Key.{Key}
-use Rattle.writer_parse.specs.declared.Key.TheVariants as key
 use Rattle.writer_parse.specs.declared.Parted.{Parted}
-use Rattle.writer_parse.specs.declared.Parted.TheVariants as parted
+use Rattle.writer_parse.specs.declared.Parted.TheVariants.{Comma, Closed}
 use Rattle.writer_parse.specs.Leaves.{said, bytes_for, form_of, Proper}
 use Rattle.writer_parse.specs.Met.{Holder, LeafAt, ManyAt, outcome, members_at, HeadMet, KeyAt, key_of, part_of, PartedMet}
 use Rattle.writer_parse.proofs.Heading.{numbered}
 use Rattle.writer_sizes.specs.Plan.{alone, kept, plan, tuple_long}
 use Rattle.writer_sizes.proofs.Trees.{joint, joint-next, bytes-joint, plan-joint, size-joint, count-joint, size-alone, none-bytes, none-plan, none-size, none-count, tuple_length, leaf-bytes, leaf-plan, leaf-count, group-long, group-plan, group-count}
-use Rattle.writer_judge.specs.declared.Measure.{Measure}
-use Rattle.writer_judge.specs.declared.Measure.TheVariants.{Refused, Sized}
+use Rattle.writer_judge.specs.declared.Measure as code
 use Rattle.writer_judge.specs.declared.Tally.{Tally}
-use Rattle.writer_judge.specs.declared.Step.{Step}
-use Rattle.writer_judge.specs.declared.Step.TheVariants.{Stop, On}
-use Rattle.writer_judge.specs.Met.{Keeps, FreshMet, Stand, measure_of, Stored, Bound, Measured, Shut, Stepping, StepIs, PartedStep, StepFrom, Stepped}
+use Rattle.writer_judge.specs.declared.Step as steps
+use Rattle.writer_judge.specs.declared.Step.TheVariants as step
+use Rattle.writer_judge.specs.Met.{Measure, Refused, Sized, measured, Step, Stop, On, stepped, tallied, Keeps, FreshMet, Stand, measure_of, Stored, Bound, Measured, Shut, Stepping, StepIs, PartedStep}
 
 -- sizes stored one after the other, and one stored before the others
 sets_append : (a b d : List ℕ) (p : ℕ) → sets (sets d p a) (p + length a) b ≡ sets d p (a ++ b)
@@ -95,9 +97,6 @@ module _ (d s : List ℕ) (room row n p k : ℕ) (old : List ℕ) (y : Measure) 
   pub told_no : (a w : ℕ) → y ≡ Refused a w → value_at d s (inside_of d s room) n row p ≡ refused a w
   told_no a w e = denied_by (value_at d s (inside_of d s room) n row p) k a w (sym e ∙ m.same)
 
-pub value-end : (d s : List ℕ) (room row n p k : ℕ) (old : List ℕ) (y : Measure) (new : List ℕ) → Measured d s room row n p k old y new → (q next b t : ℕ) → y ≡ Sized q next b t → q ≤ length s
-value-end d s room row n p k old y new m q next b t e = (told-bound d s room row n p k old y new m q next b t e).within
-
 module _ (d s : List ℕ) (room row n p k : ℕ) (old new : List ℕ) where
   denied : (a w : ℕ) → value_at d s (inside_of d s room) n row p ≡ refused a w → length new ≡ length old → Measured d s room row n p k old (Refused a w) new
   denied a w e h = record { same = sym (ap (measure_of k) e); stored = rw e tt; long = h; bound = tt }
@@ -115,11 +114,11 @@ tuple_few : (n v : ℕ) → tuple_long n v ≤ 11 + v
 unfolding tuple_long
 tuple_few n v = omega (arith, number-few (2 * n), number-few v)
 
-module _ (d s : List ℕ) (room row n p k : ℕ) (old : List ℕ) (st : Stand d s row n p k) (y : Head) (h : HeadMet d s room row p y) where
-  pub head-refused : (a w : ℕ) → y ≡ head.Refused a w → Measured d s room row n p k old (Refused a w) old
-  head-refused a w e = denied d s room row n p k old old a w (h.same n ∙ ap (outcome d s room row n) e) refl
+module _ (d s : List ℕ) (room row n p k : ℕ) (old : List ℕ) (st : Stand d s row n p k) where
+  pub head-refused : (x : paper.Refused) → HeadMet d s room row p (Err x) → Measured d s room row n p k old (measured (Err x)) old
+  head-refused x h = denied d s room row n p k old old (table.number_of x.refusal) x.place (h.same n) refl
 
-  module _ (v : Value) (q : ℕ) (e : y ≡ head.Leaf v q) where
+  module _ (y : Head) (h : HeadMet d s room row p (Ok y)) (v : Value) (q : ℕ) (e : y ≡ Leaf v q) where
     leaf-at : LeafAt s p v q
     leaf-at = rw e at h.fine
 
@@ -134,7 +133,7 @@ module _ (d s : List ℕ) (room row n p k : ℕ) (old : List ℕ) (st : Stand d 
 
     pub leaf : (z b : ℕ) → z ≡ length (bytes_for s v) → b ≡ tuple_long n z → Measured d s room row n p k old (Sized q k b 1) old
     leaf z b f g =
-        let x : value_at d s (inside_of d s room) n row p ≡ good q 0 (said s n v) = h.same n ∙ ap (outcome d s room row n) e in
+        let x : value_at d s (inside_of d s room) n row p ≡ good q 0 (said s n v) = h.same n ∙ ap (λ (i : Head). outcome d s room row n (Ok i)) e in
         let l : length (shortest (alone (said s n v))) ≡ tuple_long n (length (bytes_for s v)) = ap length (leaf-bytes s n v) ∙ tuple_length n (form_of v) (bytes_for s v) in
         let bb : b ≡ tuple_long n (length (bytes_for s v)) = g ∙ ap (tuple_long n) f in
         granted d s room row n p k old old q 0 (said s n v) k b 1 x (omega (arith, ap length (leaf-plan s n v))) (bb ∙ sym l) (sym (leaf-count s n v)) (ap (sets old k) (sym (leaf-plan s n v)))
@@ -169,9 +168,9 @@ pub record Gathering (d s : List ℕ) (room row n p k : ℕ) (old : List ℕ) (g
   pub members_few : was.members + first ≤ was.at
 
 -- what is left after one more member
-more-after : (n : ℕ) (g : Shape) (x : Judged Tuples) (done : Tuples) (one : Single) → (after (after x λ z _ rest. good z 0 (before one rest)) λ z _ t. good z 0 (group n g (joint done t))) ≡ (after x λ z _ t. good z 0 (group n g (joint (joint done (alone one)) t)))
-more-after n g (refused a w) done one = refl
-more-after n g (good z l t) done one = ap (λ (u : Tuples). good z 0 (group n g u)) (joint-next done one t)
+more-after : (n : ℕ) (g : Shape) (x : Judged Tuples) (had : Tuples) (one : Single) → (after (after x λ z _ rest. good z 0 (before one rest)) λ z _ t. good z 0 (group n g (joint had t))) ≡ (after x λ z _ t. good z 0 (group n g (joint (joint had (alone one)) t)))
+more-after n g (refused a w) had one = refl
+more-after n g (good z l t) had one = ap (λ (u : Tuples). good z 0 (group n g u)) (joint-next had one t)
 
 module _ (d s : List ℕ) (room row : ℕ) (g : Shape) where
   member : Shape → ℕ → ℕ → List ℕ → ℕ → Judged Single
@@ -199,25 +198,25 @@ module _ (d s : List ℕ) (room row : ℕ) (g : Shape) where
       go Set = rw (le-leb (length s) (past space s at) over)
       go Array = rw (le-leb (length s) (past space s at) over)
 
-module _ (d s : List ℕ) (room row n p k : ℕ) (old : List ℕ) (st : Stand d s row n p k) (y : Head) (h : HeadMet d s room row p y) (g : Shape) (first : ℕ) (e : y ≡ head.Many g first) where
+module _ (d s : List ℕ) (room row n p k : ℕ) (old : List ℕ) (st : Stand d s row n p k) (y : Head) (h : HeadMet d s room row p (Ok y)) (g : Shape) (first : ℕ) (e : y ≡ Many g first) where
   many : ManyAt d s room row p g first
   many = rw e at h.fine
 
   pub slot-fits : k + 2 < 2 ^ 64
   slot-fits = omega (arith, st.slot, st.site.within, st.site.short)
 
-  pub gather : Gathering d s room row n p k old g first old (replicate roll_bytes 0) (record { at = first; slot = k + 2; long = 0; tuples = 1; members = 0 })
+  pub gather : (bits : List ℕ) → Blank bits → Gathering d s room row n p k old g first old bits (record { at = first; slot = k + 2; long = 0; tuples = 1; members = 0 })
   unfolding members_at joint
-  gather =
+  gather bits blank =
       record {
         stand = st;
         many = many;
         fuel = length s;
         seen = [];
         done = none;
-        left = h.same n ∙ ap (outcome d s room row n) e;
+        left = h.same n ∙ ap (λ (i : Head). outcome d s room row n (Ok i)) e;
         enough = omega arith;
-        roll = keep-start d row;
+        roll = keep-start d row bits blank;
         bytes = sym none-bytes;
         members = sym none-size;
         all = omega (arith, none-count);
@@ -241,8 +240,8 @@ module _ (d s : List ℕ) (room row n p k : ℕ) (old : List ℕ) (g : Shape) (f
   pub shallower : (t : ℕ) → room ≡ t → room - 1 < t
   shallower t z = omega (arith, G.many.roomy)
 
-  pub out_of-text : length s ≤ was.at → Measured d s room row n p k old (Refused bad_text (length s)) slots
-  out_of-text l = denied d s room row n p k old slots bad_text (length s) (G.left ∙ rw (run_end d s room row g G.fuel was.members G.seen was.at l)) as_long
+  pub out_of-text : length s ≤ was.at → (x : paper.Refused) → x.refusal ≡ BadText → x.place ≡ length s → Measured d s room row n p k old (measured (Err x)) slots
+  out_of-text l x i j = rw (i, j) (denied d s room row n p k old slots bad_text (length s) (G.left ∙ rw (run_end d s room row g G.fuel was.members G.seen was.at l)) as_long)
 
   pub holder : Holder d s row g was.at
   holder = record { site = record { own = G.stand.site.own; short = G.stand.site.short; within = G.within }; form = G.many.form }
@@ -250,12 +249,9 @@ module _ (d s : List ℕ) (room row n p k : ℕ) (old : List ℕ) (g : Shape) (f
   pub key_few : was.members ≤ was.at
   key_few = omega (arith, G.members_few)
 
-  pub bits_long : length bits ≡ roll_bytes
-  bits_long = G.roll.long
-
-  module _ (y : Key) (bits' : List ℕ) (hk : FreshMet d s g row was.members bits was.at y bits') where
-    key_is : (v : Key) → y ≡ v → key_at d s g row was.members G.seen was.at ≡ key_of d s v
-    key_is v e = hk.same G.seen G.roll ∙ ap (key_of d s) e
+  module _ (bits' : List ℕ) where
+    key_is : (y : Result Key paper.Refused) → FreshMet d s g row was.members bits was.at y bits' → key_at d s g row was.members G.seen was.at ≡ key_of d s y
+    key_is y hk = hk.same G.seen G.roll
 
     fed : was.at < length s → (f : ℕ) → G.fuel ≡ f → (u : ℕ) × (G.fuel ≡ suc u)
     fed lt zero z = absurd (omega (arith, G.enough, z))
@@ -264,17 +260,26 @@ module _ (d s : List ℕ) (room row n p k : ℕ) (old : List ℕ) (g : Shape) (f
     turned : (u : ℕ) → G.fuel ≡ suc u → value_at d s (inside_of d s room) n row p ≡ (after (run d s (member_at d s (inside_of d s (room - 1))) g row (suc u) was.members G.seen was.at) λ z _ t. good z 0 (group n g (joint G.done t)))
     turned u z = G.left ∙ ap (λ (f : ℕ). after (run d s (member_at d s (inside_of d s (room - 1))) g row f was.members G.seen was.at) λ z _ t. good z 0 (group n g (joint G.done t))) z
 
-    pub no_key : was.at < length s → (a w : ℕ) → y ≡ key.Refused a w → Measured d s room row n p k old (Refused a w) slots
-    no_key lt a w x =
+    pub no_key : was.at < length s → (x : paper.Refused) → FreshMet d s g row was.members bits was.at (Err x) bits' → Measured d s room row n p k old (measured (Err x)) slots
+    no_key lt x hk =
         let u = fed lt G.fuel refl in
-        denied d s room row n p k old slots a w (turned u.0 u.1 ∙ rw (run_on d s room row g u.0 was.members G.seen was.at, key_is (key.Refused a w) x)) as_long
+        denied d s room row n p k old slots (table.number_of x.refusal) x.place (turned u.0 u.1 ∙ rw (run_on d s room row g u.0 was.members G.seen was.at, key_is (Err x) hk)) as_long
 
-    module _ (q m c : ℕ) (x : y ≡ key.Found q m c) where
-      keyed : KeyAt d s row was.at q m c
-      keyed = rw x at hk.lies
+    module _ (key : Key) (hk : FreshMet d s g row was.members bits was.at (Ok key) bits') where
+      abbrev q : ℕ
+      q = key.next
+
+      abbrev m : ℕ
+      m = key.number
+
+      abbrev c : ℕ
+      c = key.row
+
+      keyed : KeyAt d s row was.at key
+      keyed = hk.lies
 
       keeps : Keeps d row bits m bits'
-      keeps = rw x at hk.keeps
+      keeps = hk.keeps
 
       pub inner : Stand d s c m q was.slot
       inner =
@@ -292,7 +297,7 @@ module _ (d s : List ℕ) (room row n p k : ℕ) (old : List ℕ) (g : Shape) (f
           good q 0 (before x none))
       run_by u v f =
           let vi : value_at d s (inside_of d s (room - 1)) m (child d row m) q ≡ v = ap (λ (j : ℕ). value_at d s (inside_of d s (room - 1)) m j q) keyed.child_is ∙ f in
-          run_on d s room row g u was.members G.seen was.at ∙ rw (key_is (key.Found q m c) x, vi)
+          run_on d s room row g u was.members G.seen was.at ∙ rw (key_is (Ok key) hk, vi)
 
       module _ (w : Measure) (slots' : List ℕ) (hw : Measured d s (room - 1) c m q was.slot slots w slots') where
         kept-long : length slots' ≡ length old
@@ -303,9 +308,6 @@ module _ (d s : List ℕ) (room row n p k : ℕ) (old : List ℕ) (g : Shape) (f
             let u = fed lt G.fuel refl in
             denied d s room row n p k old slots' a z (turned u.0 u.1 ∙ rw (run_by u.0 (refused a z) (told_no d s (room - 1) c m q was.slot slots w slots' hw a z f))) kept-long
 
-        pub no_value-long : length slots' ≡ length old
-        no_value-long = kept-long
-
         module _ (e next' b t : ℕ) (f : w ≡ Sized e next' b t) where
           bound : Bound s q was.slot e next' b t
           bound = told-bound d s (room - 1) c m q was.slot slots w slots' hw e next' b t f
@@ -314,9 +316,12 @@ module _ (d s : List ℕ) (room row n p k : ℕ) (old : List ℕ) (g : Shape) (f
           part_stepping =
               record {
                 within = bound.within;
-                bytes = omega (arith, G.bytes_few, bound.bytes, bound.within, keyed.within, G.stand.site.short, G.within);
-                tuples = omega (arith, G.tuples_few, bound.tuples, bound.within, G.stand.site.short, G.within);
-                members = omega (arith, G.members_few, G.within, G.stand.site.short);
+                adds =
+                    record {
+                      bytes = omega (arith, G.bytes_few, bound.bytes, bound.within, keyed.within, G.stand.site.short, G.within);
+                      tuples = omega (arith, G.tuples_few, bound.tuples, bound.within, G.stand.site.short, G.within);
+                      members = omega (arith, G.members_few, G.within, G.stand.site.short);
+                    };
                 number = G.stand.number;
                 slot = omega (arith, G.stand.slot, G.stand.site.within, G.stand.site.short);
               }
@@ -347,16 +352,13 @@ module _ (d s : List ℕ) (room row n p k : ℕ) (old : List ℕ) (g : Shape) (f
           more-all = omega (arith, G.all, told.tuples, count-joint G.done (alone told.one))
 
           -- the run by what parts the member from the next
-          parting : (o : ℕ) (u : Parted) → PartedMet s g e u → run d s (member_at d s (inside_of d s (room - 1))) g row (suc o) was.members G.seen was.at
+          parting : (o : ℕ) (u : Result Parted paper.Refused) → PartedMet s g e u → run d s (member_at d s (inside_of d s (room - 1))) g row (suc o) was.members G.seen was.at
               ≡ (after (part_of u) λ z _ more.
               choose more (λ _. after (run d s (member_at d s (inside_of d s (room - 1))) g row o (suc was.members) (number_for told.one ∷ G.seen) z) λ z _ rest. good z 0 (before told.one rest)) λ _.
               good z 0 (before told.one none))
           parting o u hu = run_by o (good e told.left told.one) told.found ∙ rw hu.same
 
-          abbrev tally : ℕ → Tally
-          tally z = record { at = z; slot = next'; long = was.long + b; tuples = was.tuples + t; members = was.members + 1 }
-
-          commaed : (z o : ℕ) → PartedMet s g e (parted.Comma z) → G.fuel ≡ suc o → Gathering d s room row n p k old g first slots' bits' (record { at = z; slot = next'; long = was.long + b; tuples = was.tuples + t; members = was.members + 1 })
+          commaed : (z o : ℕ) → PartedMet s g e (Ok (Comma z)) → G.fuel ≡ suc o → Gathering d s room row n p k old g first slots' bits' (tallied was next' b t z)
           commaed z o hu v =
               let num : number_for told.one ≡ m = numbered d s (room - 1) c m q e told.left told.one inner.site told.found in
               record {
@@ -366,7 +368,7 @@ module _ (d s : List ℕ) (room row n p k : ℕ) (old : List ℕ) (g : Shape) (f
                 seen = m ∷ G.seen;
                 done = joint G.done (alone told.one);
                 left =
-                    turned o v ∙ rw (parting o (parted.Comma z) hu, num, ← add-one was.members)
+                    turned o v ∙ rw (parting o (Ok (Comma z)) hu, num, ← add-one was.members)
                     (more-after n g (run d s (member_at d s (inside_of d s (room - 1))) g row o (was.members + 1) (m ∷ G.seen) z) G.done told.one);
                 enough = omega (arith, G.enough, v, hu.lies.further, bound.further, keyed.from);
                 roll = keeps.more G.seen G.roll;
@@ -392,11 +394,11 @@ module _ (d s : List ℕ) (room row n p k : ℕ) (old : List ℕ) (g : Shape) (f
           shut-bytes : tuple_long n (length (number_of (was.members + 1)) + (was.long + b)) ≡ length (shortest (alone (group n g (joint G.done (alone told.one)))))
           shut-bytes = sym (group-long n g (joint G.done (alone told.one)) ∙ rw (more-members, more_bytes))
 
-          closed_by : (z o : ℕ) → PartedMet s g e (parted.Closed z) → G.fuel ≡ suc o → (r : Measure) (new : List ℕ) → Shut slots' k n (was.long + b) (was.members + 1) z next' (was.tuples + t) r new → Measured d s room row n p k old r new
+          closed_by : (z o : ℕ) → PartedMet s g e (Ok (Closed z)) → G.fuel ≡ suc o → (r : code.Measure) (new : List ℕ) → Shut slots' k n (tallied was next' b t z) r new → Measured d s room row n p k old (measured (Ok r)) new
           closed_by z o hu v r new sh =
               rw sh.same
               (granted d s room row n p k old new z 0 (group n g (joint G.done (alone told.one))) next' (tuple_long n (length (number_of (was.members + 1)) + (was.long + b))) (was.tuples + t)
-              (turned o v ∙ rw (parting o (parted.Closed z) hu))
+              (turned o v ∙ rw (parting o (Ok (Closed z)) hu))
               (omega (arith, more-place, ap length plan-is))
               shut-bytes
               (more-all ∙ sym (group-count n g (joint G.done (alone told.one))))
@@ -412,103 +414,54 @@ module _ (d s : List ℕ) (room row n p k : ℕ) (old : List ℕ) (g : Shape) (f
               }))
 
           module _ (lt : was.at < length s) (v : Step) (slots'' : List ℕ) (hv : PartedStep s g slots' k n was e next' b t v slots'') where
-            part-long : length slots'' ≡ length old
-            part-long = hv.long ∙ kept-long
-
-            stop_by : (u : Parted) → PartedMet s g e u → StepIs slots' k n was next' b t u v slots'' → (r : Measure) → v ≡ Stop r → Measured d s room row n p k old r slots''
-            stop_by (parted.Refused z) hu is r j =
+            stop_by : (u : Result Parted paper.Refused) → PartedMet s g e u → StepIs slots' k n was next' b t u v slots'' → (r : Measure) → v ≡ Stop r → Measured d s room row n p k old r slots''
+            stop_by (Err z) hu is r j =
                 let o = fed lt G.fuel refl in
-                let x : Stop r ≡ Stop (Refused bad_text z) = sym j ∙ is.same in
-                let y : r ≡ Refused bad_text z = cc in
-                rw y (denied d s room row n p k old slots'' bad_text z (turned o.0 o.1 ∙ rw (parting o.0 (parted.Refused z) hu)) part-long)
-            stop_by (parted.Comma z) hu is r j = absurd (let x : Stop r ≡ On (tally z) = sym j ∙ is.same in let y : ◌≡◌ {A = ℕ} 0 1 = cc in omega arith)
-            stop_by (parted.Closed z) hu is r j =
+                let x : Stop r ≡ Stop (measured (Err z)) = sym j ∙ is.same in
+                let y : r ≡ measured (Err z) = cc in
+                rw y (denied d s room row n p k old slots'' (table.number_of z.refusal) z.place (turned o.0 o.1 ∙ rw (parting o.0 (Err z) hu)) (hv.long ∙ kept-long))
+            stop_by (Ok (Comma z)) hu is r j = absurd (let x : Stop r ≡ On (tallied was next' b t z) = sym j ∙ is.same in let y : ◌≡◌ {A = ℕ} 0 1 = cc in omega arith)
+            stop_by (Ok (Closed z)) hu is r j =
                 let o = fed lt G.fuel refl in
-                let x : Stop r ≡ Stop is.answer = sym j ∙ is.same in
-                let y : r ≡ is.answer = cc in
+                let x : Stop r ≡ Stop (measured (Ok is.answer)) = sym j ∙ is.same in
+                let y : r ≡ measured (Ok is.answer) = cc in
                 rw y (closed_by z o.0 hu o.1 is.answer slots'' is.shut)
 
-            part_stopped : (r : Measure) → v ≡ Stop r → Measured d s room row n p k old r slots''
-            part_stopped r j = stop_by hv.parted hv.met hv.is r j
+            stopped : (r : Measure) → v ≡ Stop r → Measured d s room row n p k old r slots''
+            stopped r j = stop_by hv.parted hv.met hv.is r j
 
-            on_by : (u : Parted) → PartedMet s g e u → StepIs slots' k n was next' b t u v slots'' → (x : Tally) → v ≡ On x → Gathering d s room row n p k old g first slots'' bits' x × (was.at < x.at) × (x.at ≤ length s)
-            on_by (parted.Refused z) hu is x j = absurd (let i : On x ≡ Stop (Refused bad_text z) = sym j ∙ is.same in let y : ◌≡◌ {A = ℕ} 0 1 = cc in omega arith)
-            on_by (parted.Closed z) hu is x j = absurd (let i : On x ≡ Stop is.answer = sym j ∙ is.same in let y : ◌≡◌ {A = ℕ} 0 1 = cc in omega arith)
-            on_by (parted.Comma z) hu is x j =
+            on_by : (u : Result Parted paper.Refused) → PartedMet s g e u → StepIs slots' k n was next' b t u v slots'' → (x : Tally) → v ≡ On x → Gathering d s room row n p k old g first slots'' bits' x × (was.at < x.at) × (x.at ≤ length s)
+            on_by (Err z) hu is x j = absurd (let i : On x ≡ Stop (measured (Err z)) = sym j ∙ is.same in let y : ◌≡◌ {A = ℕ} 0 1 = cc in omega arith)
+            on_by (Ok (Closed z)) hu is x j = absurd (let i : On x ≡ Stop (measured (Ok is.answer)) = sym j ∙ is.same in let y : ◌≡◌ {A = ℕ} 0 1 = cc in omega arith)
+            on_by (Ok (Comma z)) hu is x j =
                 let o = fed lt G.fuel refl in
-                let i : On x ≡ On (record { at = z; slot = next'; long = was.long + b; tuples = was.tuples + t; members = was.members + 1 }) = sym j ∙ is.same in
-                let y : x ≡ record { at = z; slot = next'; long = was.long + b; tuples = was.tuples + t; members = was.members + 1 } = cc in
+                let i : On x ≡ On (tallied was next' b t z) = sym j ∙ is.same in
+                let y : x ≡ tallied was next' b t z = cc in
                 rw (y, is.kept_as) (commaed z o.0 hu o.1, omega (arith, hu.lies.further, bound.further, keyed.from), hu.lies.within)
 
             module _ (now : Tally) (j : v ≡ On now) where
-              part_again : Gathering d s room row n p k old g first slots'' bits' now
-              part_again = (on_by hv.parted hv.met hv.is now j).0
-
-              part_nearer : length s - now.at < length s - was.at
-              part_nearer = let o = on_by hv.parted hv.met hv.is now j in omega (arith, o.1, o.2)
-
-        -- by the measure of the member
-        stepping : StepFrom s k n was w
-        stepping = go w refl
-          where
-            go : (v : Measure) → w ≡ v → StepFrom s k n was v
-            go (Refused a z) f = tt
-            go (Sized e next b t) f = part_stepping e next b t f
-
-        module _ (lt : was.at < length s) (v : Step) (slots'' : List ℕ) (hv : Stepped s g slots' k n was w v slots'') where
-          by : (u : Measure) → w ≡ u → Stepped s g slots' k n was u v slots''
-          by u f = rw f at hv
-
-          step-long : length slots'' ≡ length old
-          step-long = go w refl
-            where
-              go : (u : Measure) → w ≡ u → length slots'' ≡ length old
-              go (Refused a z) f = ap length (by (Refused a z) f).kept_as ∙ kept-long
-              go (Sized e next b t) f = part-long e next b t f lt v slots'' (by (Sized e next b t) f)
-
-          stopped : (r : Measure) → v ≡ Stop r → Measured d s room row n p k old r slots''
-          stopped r j = go w refl
-            where
-              go : (u : Measure) → w ≡ u → Measured d s room row n p k old r slots''
-              go (Refused a z) f =
-                  let o = by (Refused a z) f in
-                  let x : Stop r ≡ Stop (Refused a z) = sym j ∙ o.same in
-                  let y : r ≡ Refused a z = cc in
-                  rw (y, o.kept_as) (no_value lt a z f)
-              go (Sized e next b t) f = part_stopped e next b t f lt v slots'' (by (Sized e next b t) f) r j
-
-          module _ (now : Tally) (j : v ≡ On now) where
-            onto : Gathering d s room row n p k old g first slots'' bits' now × (length s - now.at < length s - was.at)
-            onto = go w refl
-              where
-                go : (u : Measure) → w ≡ u → Gathering d s room row n p k old g first slots'' bits' now × (length s - now.at < length s - was.at)
-                go (Refused a z) f = absurd (let x : On now ≡ Stop (Refused a z) = sym j ∙ (by (Refused a z) f).same in let y : ◌≡◌ {A = ℕ} 0 1 = cc in omega arith)
-                go (Sized e next b t) f =
-                    (part_again e next b t f lt v slots'' (by (Sized e next b t) f) now j, part_nearer e next b t f lt v slots'' (by (Sized e next b t) f) now j)
-
-            again : Gathering d s room row n p k old g first slots'' bits' now
-            again = onto.0
-
-            nearer : length s - now.at < length s - was.at
-            nearer = onto.1
+              again : Gathering d s room row n p k old g first slots'' bits' now
+              again = (on_by hv.parted hv.met hv.is now j).0
 
 -- a turn of the loop; the premises stand in an order in which each shows what the next needs
-module _ (d s : List ℕ) (room row n p k : ℕ) (old : List ℕ) (g : Shape) (first : ℕ) (slots bits : List ℕ) (was : Tally) (y : Key) (bits' : List ℕ) (q m c : ℕ) (w : Measure) (slots' : List ℕ) where
-  pub turn-steps : Measured d s (room - 1) c m q was.slot slots w slots' → Gathering d s room row n p k old g first slots bits was → FreshMet d s g row was.members bits was.at y bits' → y ≡ key.Found q m c → StepFrom s k n was w
-  turn-steps hw G hk x = stepping d s room row n p k old g first slots bits was G y bits' hk q m c x w slots' hw
+module _ (d s : List ℕ) (room row n p k : ℕ) (old : List ℕ) (g : Shape) (first : ℕ) (slots bits : List ℕ) (was : Tally) (bits' : List ℕ) (key : Key) (slots' : List ℕ) where
+  pub turn-refused : (x : paper.Refused) → Measured d s (room - 1) key.row key.number key.next was.slot slots (measured (Err x)) slots' → Gathering d s room row n p k old g first slots bits was → FreshMet d s g row was.members bits was.at (Ok key) bits' → was.at < length s → Measured d s room row n p k old (measured (Err x)) slots'
+  turn-refused x hw G hk lt = no_value d s room row n p k old g first slots bits was G bits' key hk (measured (Err x)) slots' hw lt (table.number_of x.refusal) x.place refl
 
-  module _ (v : Step) (slots'' : List ℕ) where
-    pub turn-long : Stepped s g slots' k n was w v slots'' → Measured d s (room - 1) c m q was.slot slots w slots' → Gathering d s room row n p k old g first slots bits was → FreshMet d s g row was.members bits was.at y bits' → y ≡ key.Found q m c → was.at < length s → length slots'' ≡ length old
-    turn-long hv hw G hk x lt = step-long d s room row n p k old g first slots bits was G y bits' hk q m c x w slots' hw lt v slots'' hv
+  module _ (w : code.Measure) where
+    pub turn-steps : Measured d s (room - 1) key.row key.number key.next was.slot slots (measured (Ok w)) slots' → Gathering d s room row n p k old g first slots bits was → FreshMet d s g row was.members bits was.at (Ok key) bits' → Stepping s k n was w.next w.long w.tuples
+    turn-steps hw G hk = part_stepping d s room row n p k old g first slots bits was G bits' key hk (measured (Ok w)) slots' hw w.next w.slot w.long w.tuples refl
 
-    pub turn-stops : (r : Measure) → v ≡ Stop r → Stepped s g slots' k n was w v slots'' → Measured d s (room - 1) c m q was.slot slots w slots' → Gathering d s room row n p k old g first slots bits was → FreshMet d s g row was.members bits was.at y bits' → y ≡ key.Found q m c → was.at < length s → Measured d s room row n p k old r slots''
-    turn-stops r j hv hw G hk x lt = stopped d s room row n p k old g first slots bits was G y bits' hk q m c x w slots' hw lt v slots'' hv r j
+    module _ (slots'' : List ℕ) where
+      pub turn-ends : (x : paper.Refused) → PartedStep s g slots' k n was w.next w.slot w.long w.tuples (stepped (Err x)) slots'' → Measured d s (room - 1) key.row key.number key.next was.slot slots (measured (Ok w)) slots' → Gathering d s room row n p k old g first slots bits was → FreshMet d s g row was.members bits was.at (Ok key) bits' → was.at < length s → Measured d s room row n p k old (measured (Err x)) slots''
+      turn-ends x hv hw G hk lt = stopped d s room row n p k old g first slots bits was G bits' key hk (measured (Ok w)) slots' hw w.next w.slot w.long w.tuples refl lt (stepped (Err x)) slots'' hv (measured (Err x)) refl
 
-    module _ (now : Tally) where
-      pub turn_again : v ≡ On now → Stepped s g slots' k n was w v slots'' → Measured d s (room - 1) c m q was.slot slots w slots' → Gathering d s room row n p k old g first slots bits was → FreshMet d s g row was.members bits was.at y bits' → y ≡ key.Found q m c → was.at < length s → Gathering d s room row n p k old g first slots'' bits' now
-      turn_again j hv hw G hk x lt = again d s room row n p k old g first slots bits was G y bits' hk q m c x w slots' hw lt v slots'' hv now j
+      module _ (v : steps.Step) where
+        pub turn-stops : (m : code.Measure) → v ≡ step.Stop m → PartedStep s g slots' k n was w.next w.slot w.long w.tuples (stepped (Ok v)) slots'' → Measured d s (room - 1) key.row key.number key.next was.slot slots (measured (Ok w)) slots' → Gathering d s room row n p k old g first slots bits was → FreshMet d s g row was.members bits was.at (Ok key) bits' → was.at < length s → Measured d s room row n p k old (measured (Ok m)) slots''
+        turn-stops m j hv hw G hk lt = stopped d s room row n p k old g first slots bits was G bits' key hk (measured (Ok w)) slots' hw w.next w.slot w.long w.tuples refl lt (stepped (Ok v)) slots'' hv (measured (Ok m)) (ap (λ (i : steps.Step). stepped (Ok i)) j)
 
-      pub turn_nearer : v ≡ On now → Stepped s g slots' k n was w v slots'' → Measured d s (room - 1) c m q was.slot slots w slots' → Gathering d s room row n p k old g first slots bits was → FreshMet d s g row was.members bits was.at y bits' → y ≡ key.Found q m c → was.at < length s → length s - now.at < length s - was.at
-      turn_nearer j hv hw G hk x lt = nearer d s room row n p k old g first slots bits was G y bits' hk q m c x w slots' hw lt v slots'' hv now j
+        module _ (now : Tally) where
+          pub turn_again : v ≡ step.On now → PartedStep s g slots' k n was w.next w.slot w.long w.tuples (stepped (Ok v)) slots'' → Measured d s (room - 1) key.row key.number key.next was.slot slots (measured (Ok w)) slots' → Gathering d s room row n p k old g first slots bits was → FreshMet d s g row was.members bits was.at (Ok key) bits' → was.at < length s → Gathering d s room row n p k old g first slots'' bits' now
+          turn_again j hv hw G hk lt = again d s room row n p k old g first slots bits was G bits' key hk (measured (Ok w)) slots' hw w.next w.slot w.long w.tuples refl lt (stepped (Ok v)) slots'' hv now (ap (λ (i : steps.Step). stepped (Ok i)) j)
 
-pub ruleset gathering = (head-refused, leaf-proper, leaf-number, leaf-size, leaf, slot-fits, gather, as_long, turn-roomy, shallower, out_of-text, holder, key_few, bits_long, no_key, inner)
+pub ruleset gathering = (head-refused, leaf-proper, leaf-number, leaf-size, leaf, slot-fits, gather, as_long, turn-roomy, shallower, out_of-text, holder, key_few, no_key, inner, turn-refused, turn-steps)

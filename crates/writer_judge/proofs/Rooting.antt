@@ -9,9 +9,13 @@ use lib.ListN.{length}
 use lib.Seq.{sets}
 use lib.Dec.{eqb}
 use borrow.Author.Tests.{le-leb, lt-leb, eq-eqb, ne_eqb}
+use Rattle.std.specs.Prelude.{Result, Ok, Err}
+use Rattle.paper.specs.declared.Refused as paper
+use Rattle.paper.specs.declared.Refusal.TheVariants.{Misfit, NotInBase, BadText, AfterRoot}
+use Rattle.paper.specs.Refusal as table
 use Rattle.paper.specs.Limits.{depth_most}
-use Rattle.paper.specs.Refusals.{accepted, not_in_base, misfit, after_root, bad_text}
-use Rattle.paper.specs.Checks.{Judged, refused, good, after}
+use Rattle.paper.specs.Refusals.{accepted, after_root}
+use Rattle.paper.specs.Checks.{Judged, refused, good, need, after}
 use Rattle.dictionary.specs.Formats.{set_form}
 use Rattle.dictionary.specs.Rows.{kind}
 use Rattle.dictionary.proofs.Laws.{accepted_header}
@@ -27,15 +31,11 @@ use Rattle.writer_tokens.specs.Met.{Passed, Scanned, meant}
 use Rattle.text.specs.Tokens.{a_sign, space}
 use Rattle.text.specs.Scanning.{past, token_at}
 use Rattle.text.specs.Values.{is_enum, form_for, misfit_for, in_base}
-use Rattle.text.specs.Writing.{value_at, inside_of, root_for, root_at, tree_of}
+use Rattle.text.specs.Writing.{value_for, value_at, inside_of, root_for, root_at, tree_of}
 use Rattle.text.proofs.Valuing.{base-kind}
 use Rattle.writer_parse.specs.Met.{Site}
-use Rattle.writer_parse.proofs.Grouping.{group_law}
-use Rattle.writer_judge.specs.declared.Measure.{Measure}
-use Rattle.writer_judge.specs.declared.Measure.TheVariants.{Refused, Sized}
-use Rattle.writer_judge.specs.declared.Root.{Root}
-use Rattle.writer_judge.specs.declared.Root.TheVariants as root
-use Rattle.writer_judge.specs.Met.{Stand, measure_of, Measured, RootNo, RootFor, RootMet, root_measure, JudgeMet}
+use Rattle.writer_judge.specs.declared.Measure as code
+use Rattle.writer_judge.specs.Met.{Measure, Refused, Sized, measured, Stand, measure_of, Measured, RootNo, RootFor, RootMet, root_measure, JudgeMet}
 use Rattle.writer_sizes.specs.Plan.{alone, plan}
 use Rattle.writer_judge.proofs.Gathers.{Told, told-good, told-bound, told_no}
 
@@ -43,20 +43,20 @@ module _ (c at o : ℕ) (ho : o ≡ opens Set) where
   pub sign_set : c ≡ o → c ≡ opens Set
   sign_set e = e ∙ ho
 
-  module _ (n : c ≡ o → ⊥) (a : ℕ) (ha : a ≡ opens Array) where
+  module _ (n : c ≡ o → ⊥) (a : ℕ) (ha : a ≡ opens Array) (x : paper.Refused) (w : x.place ≡ at) where
     no_set : eqb c (opens Set) ≡ false
     no_set = ne_eqb c (opens Set) (λ e. n (e ∙ sym ho))
 
-    pub sign_array : c ≡ a → RootNo c at misfit at
+    pub sign_array : c ≡ a → x.refusal ≡ Misfit → RootNo c at (table.number_of x.refusal) x.place
     unfolding form_for
-    sign_array e = record { same = λ d s. rw (no_set, eq-eqb c (opens Array) (e ∙ ha)) }
+    sign_array e i = rw (i, w) (record { same = λ d s. rw (no_set, eq-eqb c (opens Array) (e ∙ ha)) })
 
-    pub sign_other : (c ≡ a → ⊥) → RootNo c at bad_text at
-    sign_other m = record { same = λ d s. rw (no_set, ne_eqb c (opens Array) (λ e. m (e ∙ sym ha))) }
+    pub sign_other : (c ≡ a → ⊥) → x.refusal ≡ BadText → RootNo c at (table.number_of x.refusal) x.place
+    sign_other m i = rw (i, w) (record { same = λ d s. rw (no_set, ne_eqb c (opens Array) (λ e. m (e ∙ sym ha))) })
 
 pub ruleset root_signs = (sign_set, sign_array, sign_other)
 
-module _ (d s : List ℕ) (st : Site d s 0 0) (at : ℕ) (v : Passed space s 0 at) (y : Token) (sc : Scanned s at y) where
+module _ (d s : List ℕ) (st : Site d s 0 0) (at : ℕ) (v : Passed space s 0 at) where
   root-set : kind d 0 ≡ set_form
   root-set = (accepted_header d st.own.accepted).root
 
@@ -66,49 +66,64 @@ module _ (d s : List ℕ) (st : Site d s 0 0) (at : ℕ) (v : Passed space s 0 a
       let z : in_base d 0 ≡ true = base-kind d 0 set_form (record { high = omega arith; not_real = λ e. omega (arith, e) }) (sym root-set) in
       rw (z, eq-eqb set_form (kind d 0) (sym root-set))
 
-  pub root-refused : (w : ℕ) → y ≡ token.Refused w → RootMet d s (root.Refused bad_text w)
+  object_law : (at : ℕ) → value_for d s (inside_of d s depth_most) 0 0 (a_sign (opens Set)) at (at + 1) ≡ (need (eqb (misfit_for d 0 set_form) accepted) (misfit_for d 0 set_form) at λ _. after (inside_of d s depth_most Set 0 at (at + 1)) λ z _ kids. good z 0 (group 0 Set kids))
+  unfolding form_for
+  object_law at = refl
+
+  pub root-refused : (x : paper.Refused) → Scanned s at (Err x) → RootMet d s (Err x)
   unfolding root_at
-  root-refused w e = let x = sc.same ∙ ap (meant s at) e in rw (← v.same, x)
+  root-refused x sc = let y = sc.same in rw (← v.same, y)
 
-  pub root-string : (q : ℕ) → y ≡ token.String q → RootMet d s (root.Refused misfit at)
-  unfolding root_at form_for is_enum
-  root-string q e = let x = sc.same ∙ ap (meant s at) e in rw (← v.same, x, root-set)
+  -- a value that is no object
+  module _ (t : Token) (sc : Scanned s at (Ok t)) (x : paper.Refused) (w : x.place ≡ at) where
+    module _ (i : x.refusal ≡ Misfit) where
+      root-string : (q : ℕ) → t ≡ token.String q → RootMet d s (Err x)
+      unfolding root_at form_for is_enum
+      root-string q e = let y = sc.same ∙ ap (λ (k : Token). meant s at (Ok k)) e in rw (i, w, ← v.same, y, root-set)
 
-  pub root-null : (q : ℕ) → y ≡ token.Null q → RootMet d s (root.Refused misfit at)
-  unfolding root_at form_for
-  root-null q e = let x = sc.same ∙ ap (meant s at) e in rw (← v.same, x)
+      root-null : (q : ℕ) → t ≡ token.Null q → RootMet d s (Err x)
+      unfolding root_at form_for
+      root-null q e = let y = sc.same ∙ ap (λ (k : Token). meant s at (Ok k)) e in rw (i, w, ← v.same, y)
 
-  pub root-boolean : (b : Bool) (q : ℕ) → y ≡ token.Boolean b q → RootMet d s (root.Refused misfit at)
-  unfolding root_at form_for
-  root-boolean b q e = let x = sc.same ∙ ap (meant s at) e in rw (← v.same, x)
+      root-boolean : (b : Bool) (q : ℕ) → t ≡ token.Boolean b q → RootMet d s (Err x)
+      unfolding root_at form_for
+      root-boolean b q e = let y = sc.same ∙ ap (λ (k : Token). meant s at (Ok k)) e in rw (i, w, ← v.same, y)
 
-  pub root-integer : (q : ℕ) → y ≡ token.Integer q → RootMet d s (root.Refused misfit at)
-  unfolding root_at form_for
-  root-integer q e = let x = sc.same ∙ ap (meant s at) e in rw (← v.same, x)
+      root-integer : (q : ℕ) → t ≡ token.Integer q → RootMet d s (Err x)
+      unfolding root_at form_for
+      root-integer q e = let y = sc.same ∙ ap (λ (k : Token). meant s at (Ok k)) e in rw (i, w, ← v.same, y)
 
-  pub root_real : (q : ℕ) → y ≡ token.Real q → RootMet d s (root.Refused not_in_base at)
-  unfolding root_at form_for
-  root_real q e = let x = sc.same ∙ ap (meant s at) e in rw (← v.same, x)
+    pub root_real : x.refusal ≡ NotInBase → (q : ℕ) → t ≡ token.Real q → RootMet d s (Err x)
+    unfolding root_at form_for
+    root_real i q e = let y = sc.same ∙ ap (λ (k : Token). meant s at (Ok k)) e in rw (i, w, ← v.same, y)
 
-  module _ (c : ℕ) (e : y ≡ token.Sign c) where
+  pub root-other : (t : Token) → Scanned s at (Ok t) → ((c : ℕ) → t ≡ token.Sign c → ⊥) → ((q : ℕ) → t ≡ token.Real q → ⊥) → (x : paper.Refused) → x.refusal ≡ Misfit → x.place ≡ at → RootMet d s (Err x)
+  root-other (token.Sign c) sc n m x i w = absurd (n c refl)
+  root-other (token.String q) sc n m x i w = root-string (token.String q) sc x w i q refl
+  root-other (token.Null q) sc n m x i w = root-null (token.Null q) sc x w i q refl
+  root-other (token.Boolean b q) sc n m x i w = root-boolean (token.Boolean b q) sc x w i b q refl
+  root-other (token.Integer q) sc n m x i w = root-integer (token.Integer q) sc x w i q refl
+  root-other (token.Real q) sc n m x i w = absurd (m q refl)
+
+  module _ (t : Token) (sc : Scanned s at (Ok t)) (c : ℕ) (e : t ≡ token.Sign c) where
     here : token_at s (past space s 0) ≡ good (past space s 0 + 1) 0 (a_sign c)
-    here = ap (token_at s) (sym v.same) ∙ sc.same ∙ ap (meant s at) e ∙ ap (λ (k : ℕ). good (k + 1) 0 (a_sign c)) v.same
+    here = ap (token_at s) (sym v.same) ∙ sc.same ∙ ap (λ (k : Token). meant s at (Ok k)) e ∙ ap (λ (k : ℕ). good (k + 1) 0 (a_sign c)) v.same
 
-    granted : c ≡ opens Set → RootMet d s root.Granted
+    granted : c ≡ opens Set → RootMet d s (Ok tt)
     unfolding value_at root_at form_for
     granted f =
         let x : token_at s (past space s 0) ≡ good (past space s 0 + 1) 0 (a_sign (opens Set)) = here ∙ ap (λ (k : ℕ). good (past space s 0 + 1) 0 (a_sign k)) f in
-        rw x (group_law d s depth_most 0 0 (past space s 0) Set ∙ rw set-fits)
+        rw x (object_law (past space s 0) ∙ rw set-fits)
 
     begun : root_at d s ≡ root_for d s (a_sign c) at (at + 1)
     unfolding root_at
     begun = rw (here, v.same)
 
-    pub root-sign : (r : Root) → RootFor c at r → RootMet d s r
-    root-sign root.Granted h = granted h
-    root-sign (root.Refused k w) h = begun ∙ h.same d s
+    pub root-sign : (r : Result (Unit {0}) paper.Refused) → RootFor c at r → RootMet d s r
+    root-sign (Ok u) h = granted h
+    root-sign (Err x) h = begun ∙ h.same d s
 
-pub ruleset rooting = (root-refused, root-string, root-null, root-boolean, root-integer, root_real, root-sign)
+pub ruleset rooting = (root-refused, root-other, root_real, root-sign)
 
 -- the first pass over a whole text
 inverted : (j : Judged Tuples) (q l : ℕ) (x : Single) → (after j λ z _ kids. good z 0 (group 0 Set kids)) ≡ good q l x → (kids : Tuples) × (m : ℕ) × (j ≡ good q m kids) × (x ≡ group 0 Set kids)
@@ -130,27 +145,43 @@ module _ (d s old : List ℕ) where
         bound = tt;
       }
 
-  pub judge_no_root : (y : Root) → RootMet d s y → (a w : ℕ) → y ≡ root.Refused a w → JudgeMet d s old (Refused a w) old
+  pub judge_no_root : (x : paper.Refused) → RootMet d s (Err x) → JudgeMet d s old (measured (Err x)) old
   unfolding tree_of
-  judge_no_root y h a w e = let x : RootMet d s (root.Refused a w) = rw e at h in judged_no old a w (rw x) refl
+  judge_no_root x h = judged_no old (table.number_of x.refusal) x.place (rw h) refl
 
   pub judge-stand : Site d s 0 0 → Stand d s 0 0 0 0
   judge-stand st = record { site = st; number = omega arith; slot = omega arith }
 
-  module _ (y : Root) (h : RootMet d s y) (e : y ≡ root.Granted) (w : Measure) (new : List ℕ) (hw : Measured d s depth_most 0 0 0 0 old w new) where
-    root_is : RootMet d s root.Granted
-    root_is = rw e at h
-
-    pub judge-refused : (a z : ℕ) → w ≡ Refused a z → JudgeMet d s old (Refused a z) new
+  module _ (root_is : RootMet d s (Ok tt)) (new : List ℕ) where
+    pub judge-refused : (x : paper.Refused) → Measured d s depth_most 0 0 0 0 old (measured (Err x)) new → JudgeMet d s old (measured (Err x)) new
     unfolding tree_of
-    judge-refused a z f =
-        let x : root_at d s ≡ refused a z = refused_so (root_at d s) a z (sym root_is ∙ told_no d s depth_most 0 0 0 0 old w new hw a z f) in
-        judged_no new a z (rw x) hw.long
+    judge-refused x hw =
+        let a = table.number_of x.refusal in
+        let y : root_at d s ≡ refused a x.place = refused_so (root_at d s) a x.place (sym root_is ∙ told_no d s depth_most 0 0 0 0 old (measured (Err x)) new hw a x.place refl) in
+        judged_no new a x.place (rw y) hw.long
 
-    pub judge-long : length new ≡ length old
-    judge-long = hw.long
+    module _ (m : code.Measure) (hw : Measured d s depth_most 0 0 0 0 old (measured (Ok m)) new) where
+      abbrev w : Measure
+      w = measured (Ok m)
 
-    module _ (q next b t : ℕ) (f : w ≡ Sized q next b t) where
+      abbrev q : ℕ
+      q = m.next
+
+      abbrev next : ℕ
+      next = m.slot
+
+      abbrev b : ℕ
+      b = m.long
+
+      abbrev t : ℕ
+      t = m.tuples
+
+      abbrev f : measured (Ok m) ≡ Sized m.next m.slot m.long m.tuples
+      f = refl
+
+      pub judge-long : length new ≡ length old
+      judge-long = hw.long
+
       pub judge-within : q ≤ length s
       judge-within = (told-bound d s depth_most 0 0 0 0 old w new hw q next b t f).within
 
@@ -161,9 +192,9 @@ module _ (d s old : List ℕ) where
         whole : (kids : Tuples) × (m : ℕ) × (root_at d s ≡ good q m kids) × (told.one ≡ group 0 Set kids)
         whole = inverted (root_at d s) q told.left told.one (sym root_is ∙ told.found)
 
-        pub judge-after : end < length s → JudgeMet d s old (Refused after_root end) new
+        pub judge-after : end < length s → (y : paper.Refused) → y.refusal ≡ AfterRoot → y.place ≡ end → JudgeMet d s old (measured (Err y)) new
         unfolding tree_of
-        judge-after l = let x = whole.2 in judged_no new after_root end (rw (x, ← v.same, lt-leb (length s) end l)) hw.long
+        judge-after l y i j = let x = whole.2 in rw (i, j) (judged_no new after_root end (rw (x, ← v.same, lt-leb (length s) end l)) hw.long)
 
         module _ (l : length s ≤ end) where
           tree_is : (kids : Tuples) (m : ℕ) → root_at d s ≡ good q m kids → tree_of d s ≡ good q 0 kids
@@ -178,7 +209,7 @@ module _ (d s old : List ℕ) where
               let y = sym (tree_is kids m x) ∙ g in
               value-is kids m x ∙ ap (λ (k : ℕ). good k 0 (group 0 Set kids)) (same_place y) ∙ ap (λ (u : Tuples). good q' 0 (group 0 Set u)) (same_thing y)
 
-          pub judge-whole : JudgeMet d s old (Sized q next b t) new
+          pub judge-whole : JudgeMet d s old (measured (Ok m)) new
           judge-whole =
               record {
                 same = sym f ∙ hw.same ∙ ap (measure_of 0) (value-is whole.0 whole.1 whole.2) ∙ sym (ap root_measure (tree_is whole.0 whole.1 whole.2));

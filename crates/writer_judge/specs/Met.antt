@@ -2,14 +2,17 @@
 -- What the functions of the first pass ask and answer.
 --   FreshMet             what stands before a member's value, where no name may come twice
 --   Stand                where a value is measured: its row, its number, its place, and its first free slot
---   measure_of, Measured  what the first pass says of a value: the place after it, the next free slot, its bytes and tuples; and what it keeps
+--   Measure, measured    what the first pass says of a value: refused, with number and place; or the place after it, the next free slot, its bytes and tuples; and the code's form of it
+--   measure_of, Measured  the same of a definition; and what the first pass keeps
 --   Closing, Shut        a group whose members are read
---   Stepping, PartedStep, StepFrom, Stepped   after a member, by its parts and by its measure
+--   Step, stepped        after a member: the group's answer, or on to the next member; and the code's form of it
+--   tallied, Adding, Stepping, PartedStep   after a member, by its parts
 --   RootFor, RootMet, JudgeMet   the root's sign, the root, and the first pass over a whole text
-use Rattle.std.specs.Prelude.{ℕ, ◌+◌, ◌*◌, ◌^◌, ◌≤◌, ◌<◌, ◌≡◌, List, ◌∷◌, length, set}
+use Rattle.std.specs.Prelude.{ℕ, ◌+◌, ◌*◌, ◌^◌, ◌≤◌, ◌<◌, ◌≡◌, List, ◌∷◌, length, set, Result, Ok, Err}
 use Rattle.std.proofs.lemmas.List.Edits.{sets}
 use Rattle.paper.specs.Limits.{depth_most}
-use Rattle.paper.specs.Refusals.{bad_text}
+use Rattle.paper.specs.declared.Refused as paper
+use Rattle.paper.specs.Refusal as table
 use Rattle.paper.specs.Checks.{Judged, refused, good, after}
 use Rattle.numbers.specs.Number.{number_of}
 use Rattle.payload.specs.Tree.{Tuples, count}
@@ -17,37 +20,40 @@ use Rattle.payload.specs.declared.Shape.{Shape}
 use Rattle.payload.specs.declared.Shape.TheVariants.{Set}
 use Rattle.payload.specs.Text.{opens}
 use Rattle.payload.specs.Reading.{Single, group}
-use Rattle.repeats.specs.Roll.{roll_bytes, Kept}
+use Rattle.repeats.specs.Roll.{Kept}
 use Rattle.text.specs.Tokens.{a_sign}
 use Rattle.text.specs.Shortest.{shortest}
 use Rattle.text.specs.Writing.{key_at, value_at, inside_of, root_for, root_at, tree_of}
 use Rattle.writer_parse.specs.declared.Key.{Key}
-use Rattle.writer_parse.specs.declared.Key.TheVariants as key
 use Rattle.writer_parse.specs.declared.Parted.{Parted}
-use Rattle.writer_parse.specs.declared.Parted.TheVariants as parted
+use Rattle.writer_parse.specs.declared.Parted.TheVariants.{Comma, Closed}
 use Rattle.writer_parse.specs.Met.{Site, PartedMet, key_of, KeyIn}
 use Rattle.writer_sizes.specs.Plan.{alone, kept, plan, tuple_long}
-use Rattle.writer_judge.specs.declared.Measure.{Measure}
-use Rattle.writer_judge.specs.declared.Measure.TheVariants.{Refused, Sized}
+use Rattle.writer_judge.specs.declared.Measure as code
 use Rattle.writer_judge.specs.declared.Tally.{Tally}
-use Rattle.writer_judge.specs.declared.Step.{Step}
-use Rattle.writer_judge.specs.declared.Step.TheVariants.{Stop, On}
-use Rattle.writer_judge.specs.declared.Root.{Root}
-use Rattle.writer_judge.specs.declared.Root.TheVariants as root
+use Rattle.writer_judge.specs.declared.Step as steps
+use Rattle.writer_judge.specs.declared.Step.TheVariants as step
+
+pub data Measure : Type 0 where
+  Refused : ℕ → ℕ → Measure
+  Sized : ℕ → ℕ → ℕ → ℕ → Measure
+
+abbrev pub measured : Result code.Measure paper.Refused → Measure
+measured (Err x) = Refused (table.number_of x.refusal) x.place
+measured (Ok m) = Sized m.next m.slot m.long m.tuples
 
 -- a member's number is put on the roll
 pub record Keeps (d : List ℕ) (row : ℕ) (bits : List ℕ) (n : ℕ) (bits' : List ℕ) : Type 0 where
   pub more : (seen : List ℕ) → Kept d row seen bits → Kept d row (n ∷ seen) bits'
 
-abbrev pub KeepsIn : List ℕ → ℕ → List ℕ → Key → List ℕ → Type 0
-KeepsIn d row bits (key.Refused k w) bits' = Unit {0}
-KeepsIn d row bits (key.Found q n c) bits' = Keeps d row bits n bits'
+abbrev pub KeepsIn : List ℕ → ℕ → List ℕ → Result Key paper.Refused → List ℕ → Type 0
+KeepsIn d row bits (Err x) bits' = Unit {0}
+KeepsIn d row bits (Ok k) bits' = Keeps d row bits k.number bits'
 
-pub record FreshMet (d s : List ℕ) (g : Shape) (row i : ℕ) (bits : List ℕ) (p : ℕ) (r : Key) (bits' : List ℕ) : Type 0 where
+pub record FreshMet (d s : List ℕ) (g : Shape) (row i : ℕ) (bits : List ℕ) (p : ℕ) (r : Result Key paper.Refused) (bits' : List ℕ) : Type 0 where
   pub same : (seen : List ℕ) → Kept d row seen bits → key_at d s g row i seen p ≡ key_of d s r
   pub lies : KeyIn d s row p r
   pub keeps : KeepsIn d row bits r bits'
-  pub long : length bits' ≡ roll_bytes
 
 pub record Stand (d s : List ℕ) (row n p k : ℕ) : Type 0 where
   pub site : Site d s row p
@@ -85,58 +91,66 @@ pub record Closing (k n long : ℕ) : Type 0 where
   pub few : long < 2 ^ 31
   pub slot : k < 2 ^ 32
 
-pub record Shut (old : List ℕ) (k n long members place next tuples : ℕ) (r : Measure) (new : List ℕ) : Type 0 where
-  pub same : r ≡ Sized place next (tuple_long n (length (number_of members) + long)) tuples
-  pub stored : new ≡ set (set old k (kept (length (number_of members) + long))) (k + 1) (kept members)
+pub record Shut (old : List ℕ) (k n : ℕ) (all : Tally) (r : code.Measure) (new : List ℕ) : Type 0 where
+  pub same : r ≡ record { next = all.at; slot = all.slot; long = tuple_long n (length (number_of all.members) + all.long); tuples = all.tuples }
+  pub stored : new ≡ set (set old k (kept (length (number_of all.members) + all.long))) (k + 1) (kept all.members)
 
 -- after a member
-pub record Stepping (s : List ℕ) (k n : ℕ) (was : Tally) (e b t : ℕ) : Type 0 where
-  pub within : e ≤ length s
+pub data Step : Type 0 where
+  Stop : Measure → Step
+  On : Tally → Step
+
+abbrev pub stepped : Result steps.Step paper.Refused → Step
+stepped (Err x) = Stop (measured (Err x))
+stepped (Ok (step.Stop m)) = Stop (measured (Ok m))
+stepped (Ok (step.On t)) = On t
+
+-- with a member more, whose slots end at `next`, and which has b bytes and t tuples; the next stands at z
+abbrev pub tallied : Tally → ℕ → ℕ → ℕ → ℕ → Tally
+tallied was next b t z = record { at = z; slot = next; long = was.long + b; tuples = was.tuples + t; members = was.members + 1 }
+
+pub record Adding (was : Tally) (b t : ℕ) : Type 0 where
   pub bytes : was.long + b < 2 ^ 31
   pub tuples : was.tuples + t < 2 ^ 31
   pub members : was.members + 1 < 2 ^ 31
+
+pub record Stepping (s : List ℕ) (k n : ℕ) (was : Tally) (e b t : ℕ) : Type 0 where
+  pub within : e ≤ length s
+  pub adds : Adding was b t
   pub number : n < 2 ^ 31
   pub slot : k < 2 ^ 32
 
-pub record Ended (old : List ℕ) (k n : ℕ) (was : Tally) (next b t z : ℕ) (r : Step) (new : List ℕ) : Type 0 where
-  pub answer : Measure
-  pub shut : Shut old k n (was.long + b) (was.members + 1) z next (was.tuples + t) answer new
-  pub same : r ≡ Stop answer
+pub record Ended (old : List ℕ) (k n : ℕ) (all : Tally) (r : Step) (new : List ℕ) : Type 0 where
+  pub answer : code.Measure
+  pub shut : Shut old k n all answer new
+  pub same : r ≡ Stop (measured (Ok answer))
 
 pub record KeptOn (old : List ℕ) (x r : Step) (new : List ℕ) : Type 0 where
   pub same : r ≡ x
   pub kept_as : new ≡ old
 
-abbrev pub StepIs : List ℕ → ℕ → ℕ → Tally → ℕ → ℕ → ℕ → Parted → Step → List ℕ → Type 0
-StepIs old k n was next b t (parted.Refused w) r new = KeptOn old (Stop (Refused bad_text w)) r new
-StepIs old k n was next b t (parted.Comma z) r new = KeptOn old (On (record { at = z; slot = next; long = was.long + b; tuples = was.tuples + t; members = was.members + 1 })) r new
-StepIs old k n was next b t (parted.Closed z) r new = Ended old k n was next b t z r new
+abbrev pub StepIs : List ℕ → ℕ → ℕ → Tally → ℕ → ℕ → ℕ → Result Parted paper.Refused → Step → List ℕ → Type 0
+StepIs old k n was next b t (Err x) r new = KeptOn old (Stop (measured (Err x))) r new
+StepIs old k n was next b t (Ok (Comma z)) r new = KeptOn old (On (tallied was next b t z)) r new
+StepIs old k n was next b t (Ok (Closed z)) r new = Ended old k n (tallied was next b t z) r new
 
 pub record PartedStep (s : List ℕ) (g : Shape) (old : List ℕ) (k n : ℕ) (was : Tally) (e next b t : ℕ) (r : Step) (new : List ℕ) : Type 0 where
-  pub parted : Parted
+  pub parted : Result Parted paper.Refused
   pub met : PartedMet s g e parted
   pub is : StepIs old k n was next b t parted r new
   pub long : length new ≡ length old
-
-abbrev pub StepFrom : List ℕ → ℕ → ℕ → Tally → Measure → Type 0
-StepFrom s k n was (Refused a w) = Unit {0}
-StepFrom s k n was (Sized e next b t) = Stepping s k n was e b t
-
-abbrev pub Stepped : List ℕ → Shape → List ℕ → ℕ → ℕ → Tally → Measure → Step → List ℕ → Type 0
-Stepped s g old k n was (Refused a w) r new = KeptOn old (Stop (Refused a w)) r new
-Stepped s g old k n was (Sized e next b t) r new = PartedStep s g old k n was e next b t r new
 
 -- the root
 pub record RootNo (c at k w : ℕ) : Type 0 where
   pub same : (d s : List ℕ) → root_for d s (a_sign c) at (at + 1) ≡ refused k w
 
-abbrev pub RootFor : ℕ → ℕ → Root → Type 0
-RootFor c at (root.Refused k w) = RootNo c at k w
-RootFor c at root.Granted = c ≡ opens Set
+abbrev pub RootFor : ℕ → ℕ → Result (Unit {0}) paper.Refused → Type 0
+RootFor c at (Err x) = RootNo c at (table.number_of x.refusal) x.place
+RootFor c at (Ok u) = c ≡ opens Set
 
-abbrev pub RootMet : List ℕ → List ℕ → Root → Type 0
-RootMet d s (root.Refused k w) = root_at d s ≡ refused k w
-RootMet d s root.Granted = value_at d s (inside_of d s depth_most) 0 0 0 ≡ (after (root_at d s) λ z _ kids. good z 0 (group 0 Set kids))
+abbrev pub RootMet : List ℕ → List ℕ → Result (Unit {0}) paper.Refused → Type 0
+RootMet d s (Err x) = root_at d s ≡ refused (table.number_of x.refusal) x.place
+RootMet d s (Ok u) = value_at d s (inside_of d s depth_most) 0 0 0 ≡ (after (root_at d s) λ z _ kids. good z 0 (group 0 Set kids))
 
 -- the first pass over a whole text: the measure of its tree's root tuple
 abbrev pub root_measure : Judged Tuples → Measure

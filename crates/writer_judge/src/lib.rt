@@ -6,15 +6,17 @@ pub mod measuring;
 pub mod roots;
 pub mod slots;
 
-// What the first pass says of a value: refused, with number and place; or the place after it, the next free slot, the number of its bytes and of its tuples.
-#[derive(Clone, Copy)]
-pub enum Measure {
-    Refused(u8, usize),
-    Sized(usize, usize, usize, usize),
+// What the first pass says of a value: the place after it, the next free slot, the number of its bytes and of its tuples.
+#[derive(Clone, Copy, PartialEq, Eq)]
+pub struct Measure {
+    pub next: usize,
+    pub slot: usize,
+    pub long: usize,
+    pub tuples: usize,
 }
 
 // How far the first pass has come in a group: the place of the next member, the next free slot, and the bytes, tuples and members so far.
-#[derive(Clone, Copy)]
+#[derive(Clone, Copy, PartialEq, Eq)]
 pub struct Tally {
     at: usize,
     slot: usize,
@@ -23,16 +25,9 @@ pub struct Tally {
     members: usize,
 }
 
-// After a member: the group's answer, or on to the next member.
-#[derive(Clone, Copy)]
+// After a member: the group's measure, or on to the next member.
+#[derive(Clone, Copy, PartialEq, Eq)]
 pub enum Step {
     Stop(Measure),
     On(Tally),
-}
-
-// Whether the root may be read on: refused, with number and place, or not.
-#[derive(Clone, Copy)]
-pub enum Root {
-    Refused(u8, usize),
-    Granted,
 }

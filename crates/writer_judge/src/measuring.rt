@@ -1,82 +1,51 @@
 // The first pass: judges, measures, and keeps the size and the count of each group in slots, in the order of opening.
-ghost use Rattle.writer_judge.specs.Met.{Stand, Measured, Closing, Shut, Stepping, PartedStep, Stepped, StepFrom};
+ghost use Rattle.std.specs.Prelude.{◌≡◌};
+ghost use Rattle.writer_judge.specs.Met.{measured, stepped, Stand, Measured, Closing, Shut, Adding, tallied, Stepping, PartedStep};
 
 use crate::keys::fresh_key_at;
 use crate::slots::keep;
 use crate::{Measure, Step, Tally};
-use paper::BAD_TEXT;
+use paper::{Refusal, Refused};
 use payload::Shape;
-use repeats::ROLL_BYTES;
+use repeats::Roll;
 use writer_parse::heads::head_at;
 use writer_parse::signs::parted_at;
-use writer_parse::{Head, Key, Parted};
+use writer_parse::{Head, Parted};
 use writer_sizes::{number_long, tuple_long, value_long};
 
-// A group whose members are read: its slots, and what it comes to.
-fn closed(
-    slots: &mut [u16],
-    k: usize,
-    n: usize,
-    long: usize,
-    members: usize,
-    place: usize,
-    next: usize,
-    tuples: usize,
-) -> Measure
-    requires { Closing k n long }
-    ensures { Shut slots.old k n long members place next tuples result slots.new }
-{
-    let size = number_long(members) + long;
-    keep(slots, k, size);
-    keep(slots, k + 1, members);
-    Measure::Sized(place, next, tuple_long(n, size), tuples)
-}
-
-// After a member that ends at e, whose slots end at `next`, and which has b bytes and t tuples.
-fn parted(
-    s: &[u8],
-    g: Shape,
-    slots: &mut [u16],
-    k: usize,
-    n: usize,
-    was: Tally,
-    e: usize,
-    next: usize,
-    b: usize,
-    t: usize,
-) -> Step
-    requires { Stepping s.now k n was e b t }
-    ensures { PartedStep s.now g slots.old k n was e next b t result slots.new }
-{
-    match parted_at(s, g, e) {
-        Parted::Refused(w) => {
-            return Step::Stop(Measure::Refused(BAD_TEXT, w));
-        }
-        Parted::Closed(z) => {
-            return Step::Stop(closed(
-                slots,
-                k,
-                n,
-                was.long + b,
-                was.members + 1,
-                z,
-                next,
-                was.tuples + t,
-            ));
-        }
-        Parted::Comma(z) => {
-            return Step::On(Tally {
-                at: z,
-                slot: next,
-                long: was.long + b,
-                tuples: was.tuples + t,
-                members: was.members + 1,
-            });
+impl Tally {
+    // With a member more; the next stands at `at`.
+    fn with(self, member: Measure, at: usize) -> Tally
+        requires { Adding self member.long member.tuples }
+        ensures { result ≡ tallied self member.slot member.long member.tuples at }
+    {
+        Tally {
+            at,
+            slot: member.slot,
+            long: self.long + member.long,
+            tuples: self.tuples + member.tuples,
+            members: self.members + 1,
         }
     }
 }
 
-// After a member, by its measure.
+// A group whose members are read: its slots, its size and its count in turn in one array of numbers, and what it comes to.
+fn closed(slots: &mut [u16], k: usize, n: usize, all: Tally) -> Measure
+    requires { Closing k n all.long }
+    ensures { Shut slots.old k n all result slots.new }
+{
+    let size = number_long(all.members) + all.long;
+    keep(slots, k, size);
+    keep(slots, k + 1, all.members);
+    Measure {
+        next: all.at,
+        slot: all.slot,
+        long: tuple_long(n, size),
+        tuples: all.tuples,
+    }
+}
+
+// After a member.
 fn step(
     s: &[u8],
     g: Shape,
@@ -85,17 +54,13 @@ fn step(
     n: usize,
     was: Tally,
     member: Measure,
-) -> Step
-    requires { StepFrom s.now k n was member }
-    ensures { Stepped s.now g slots.old k n was member result slots.new }
+) -> Result<Step, Refused>
+    requires { Stepping s.now k n was member.next member.long member.tuples }
+    ensures { PartedStep s.now g slots.old k n was member.next member.slot member.long member.tuples (stepped result) slots.new }
 {
-    match member {
-        Measure::Refused(a, w) => {
-            return Step::Stop(Measure::Refused(a, w));
-        }
-        Measure::Sized(e, next, b, t) => {
-            return parted(s, g, slots, k, n, was, e, next, b, t);
-        }
+    match parted_at(s, g, member.next)? {
+        Parted::Comma(at) => Ok(Step::On(was.with(member, at))),
+        Parted::Closed(at) => Ok(Step::Stop(closed(slots, k, n, was.with(member, at)))),
     }
 }
 
@@ -109,19 +74,19 @@ pub fn measure(
     p: usize,
     slots: &mut [u16],
     k: usize,
-) -> Measure
+) -> Result<Measure, Refused>
     requires { Stand d.now s.now row n p k }
-    ensures { Measured d.now s.now room row n p k slots.old result slots.new }
+    ensures { Measured d.now s.now room row n p k slots.old (measured result) slots.new }
 {
-    match head_at(d, s, room, row, p) {
-        Head::Refused(a, w) => {
-            return Measure::Refused(a, w);
-        }
-        Head::Leaf(v, q) => {
-            return Measure::Sized(q, k, tuple_long(n, value_long(s, v)), 1);
-        }
+    match head_at(d, s, room, row, p)? {
+        Head::Leaf(v, next) => Ok(Measure {
+            next,
+            slot: k,
+            long: tuple_long(n, value_long(s, v)),
+            tuples: 1,
+        }),
         Head::Many(g, first) => {
-            let mut bits = [0u8; ROLL_BYTES];
+            let mut roll = Roll::new();
             let mut was = Tally {
                 at: first,
                 slot: k + 2,
@@ -129,25 +94,25 @@ pub fn measure(
                 tuples: 1,
                 members: 0,
             };
+            // Each turn says where the next begins.
             while was.at < s.len() {
-                match fresh_key_at(d, s, g, row, was.members, &mut bits, was.at) {
-                    Key::Refused(a, w) => {
-                        return Measure::Refused(a, w);
-                    }
-                    Key::Found(q, m, c) => {
-                        let member = measure(d, s, room - 1, c, m, q, slots, was.slot);
-                        match step(s, g, slots, k, n, was, member) {
-                            Step::Stop(r) => {
-                                return r;
-                            }
-                            Step::On(x) => {
-                                was = x;
-                            }
-                        }
-                    }
+                let key = fresh_key_at(d, s, g, row, was.members, &mut roll, was.at)?;
+                let member = measure(
+                    d,
+                    s,
+                    room - 1,
+                    key.row,
+                    key.number,
+                    key.next,
+                    slots,
+                    was.slot,
+                )?;
+                match step(s, g, slots, k, n, was, member)? {
+                    Step::Stop(group) => return Ok(group),
+                    Step::On(now) => was = now,
                 }
             }
-            return Measure::Refused(BAD_TEXT, s.len());
+            Err(Refusal::BadText.at(s.len()))
         }
     }
 }

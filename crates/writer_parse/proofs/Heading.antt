@@ -1,6 +1,6 @@
 -- The front of a value, one lemma for each return of the functions that judge it.
 -- Assumes nothing.
-use Prim.Native.Nat.{ℕ, ◌+◌, ◌-◌, ◌*◌, ◌^◌, ◌≤◌, ◌<◌}
+use Prim.Native.Nat.{ℕ, ◌+◌, ◌-◌, ◌*◌, ◌≤◌, ◌<◌}
 use mathlib.Core.Path.{◌≡◌, refl, sym, ap, ◌∙◌}
 use mathlib.Core.List.{List, [], ◌∷◌}
 use mathlib.Core.Bool.{Bool, true, false}
@@ -9,18 +9,20 @@ use lib.ListN.{length, take, drop, length-append}
 use lib.Seq.{slice, length-slice}
 use lib.Dec.{eqb}
 use borrow.Author.Tests.{eq-eqb, ne_eqb}
-use Rattle.paper.specs.Refusals.{accepted, not_in_base, value_wrong, bad_text}
+use Rattle.paper.specs.Refusals.{accepted}
 use Rattle.paper.specs.Checks.{good, need}
 use Rattle.numbers.specs.declared.Integer.{Integer}
-use Rattle.numbers.specs.declared.Said.{Said}
-use Rattle.numbers.specs.declared.Said.TheVariants.{Wrong, Is}
 use Rattle.numbers.specs.Decimal.{integral, integer_said}
 use Rattle.numbers.proofs.Places.{slice-take}
 use Rattle.numbers.proofs.Numbers.{number-few}
 use Rattle.numbers.proofs.Brief.{brief_whole}
 use Rattle.numbers.proofs.Decimals.{said-held}
-use Rattle.dictionary.specs.declared.Child.{Child}
-use Rattle.dictionary.specs.declared.Child.TheVariants.{At, Nothing}
+use Rattle.std.specs.Prelude.{Option as Maybe, Some, None, Result, Ok, Err}
+use Rattle.paper.specs.declared.Refusal.TheVariants.{BadText, NotInBase, ValueWrong}
+use Rattle.paper.specs.declared.Refused.{Refused}
+use Rattle.payload.specs.declared.Shape.{Shape}
+use Rattle.payload.specs.declared.Shape.TheVariants.{Set, Array}
+use Rattle.payload.specs.Text.{opens}
 use Rattle.dictionary.specs.Formats.{null_form, integer_form, enum_form, string_form, boolean_form}
 use Rattle.dictionary.specs.Rows.{entries, kind, number_in}
 use Rattle.dictionary.specs.Children.{child_named}
@@ -46,91 +48,88 @@ use Rattle.writer_parse.specs.declared.Value.{Value}
 use Rattle.writer_parse.specs.declared.Value.TheVariants.{Null, Boolean, Option, String}
 use Rattle.writer_parse.specs.declared.Value.TheVariants as leaf
 use Rattle.writer_parse.specs.declared.Head.{Head}
-use Rattle.writer_parse.specs.declared.Head.TheVariants.{Refused, Leaf, Many}
+use Rattle.writer_parse.specs.declared.Head.TheVariants.{Leaf, Many}
 use Rattle.writer_parse.specs.Leaves.{said}
-use Rattle.writer_parse.specs.Met.{Site, fitted_head, LeafAt, Fine, ForMet, AnyMet, OptionSite, HeadMet}
-use Rattle.writer_parse.proofs.Grouping.{row_lies}
-
--- a value that its format alone makes right or wrong
-module _ (d : List ℕ) (row f : ℕ) (v : Value) (at q m : ℕ) (h : m ≡ misfit_for d row f) where
-  pub fitted-not : (m ≡ accepted → ⊥) → Refused m at ≡ fitted_head d row f v at q
-  fitted-not n = rw (← h, ne_eqb m accepted n)
-
-  pub fitted_well : m ≡ accepted → Leaf v q ≡ fitted_head d row f v at q
-  fitted_well e = rw (← h, eq-eqb m accepted e)
-
-pub ruleset fitteds = (fitted-not, fitted_well)
+use Rattle.writer_parse.specs.Met.{Site, FitMet, LeafMet, LeafAt, Fine, ForMet, AnyMet, OptionSite, HeadMet}
+use Rattle.writer_parse.proofs.Grouping.{row_lies, unfit}
 
 module _ (d s : List ℕ) where
-  fitted-met : (room row f at q : ℕ) (v : Value) (k : tokens.Token) (r : Head) → r ≡ fitted_head d row f v at q → ((n : ℕ) → value_for d s (inside_of d s room) n row k at q ≡ (need (eqb (misfit_for d row f) accepted) (misfit_for d row f) at λ _. good q 0 (said s n v))) → LeafAt s at v q → ForMet d s room row k at q r
-  fitted-met room row f at q v k r e law leaf = go (eqb (misfit_for d row f) accepted) refl
-    where
-      go : (b : Bool) → eqb (misfit_for d row f) accepted ≡ b → ForMet d s room row k at q r
-      go true g =
-          let x : r ≡ Leaf v q = e ∙ rw g in
-          rw x (record { same = λ n. law n ∙ rw g; fine = leaf })
-      go false g =
-          let x : r ≡ Refused (misfit_for d row f) at = e ∙ rw g in
-          rw x (record { same = λ n. law n ∙ rw g; fine = tt })
+  -- a value that its format alone makes right or wrong
+  leaf-met : (room row f at q : ℕ) (v : Value) (k : tokens.Token) (r : Result Head Refused) → LeafMet d row f v at q r → ((n : ℕ) → value_for d s (inside_of d s room) n row k at q ≡ (need (eqb (misfit_for d row f) accepted) (misfit_for d row f) at λ _. good q 0 (said s n v))) → LeafAt s at v q → ForMet d s room row k at q r
+  leaf-met room row f at q v k (Err e) h law leaf = record { same = λ n. law n ∙ unfit d row f at e _ h; fine = tt }
+  leaf-met room row f at q v k (Ok x) h law leaf = rw h.1 (record { same = λ n. law n ∙ rw h.0; fine = leaf })
 
   -- by the token, and so at the place before the spaces
-  further : (room row p at : ℕ) (r : Head) → p ≤ at → Fine d s room row at r → Fine d s room row p r
-  further room row p at (Refused k w) h t = tt
-  further room row p at (Leaf v q) h t =
+  further : (room row p at : ℕ) (r : Result Head Refused) → p ≤ at → Fine d s room row at r → Fine d s room row p r
+  further room row p at (Err k) h t = tt
+  further room row p at (Ok (Leaf v q)) h t =
       record { spans = record { further = omega (arith, t.spans.further); within = t.spans.within }; proper = t.proper; small = omega (arith, t.small) }
-  further room row p at (Many g first) h t =
+  further room row p at (Ok (Many g first)) h t =
       record { spans = record { further = omega (arith, t.spans.further); within = t.spans.within }; roomy = t.roomy; form = t.form }
 
-  lifted : (room row p at q : ℕ) (k : tokens.Token) (r : Head) → Passed space s p at → token_at s at ≡ good q 0 k → ForMet d s room row k at q r → HeadMet d s room row p r
+  lifted : (room row p at q : ℕ) (k : tokens.Token) (r : Result Head Refused) → Passed space s p at → token_at s at ≡ good q 0 k → ForMet d s room row k at q r → HeadMet d s room row p r
   unfolding value_at
   lifted room row p at q k r v e t = record { same = λ n. rw (← v.same, e) (t.same n); fine = further room row p at r v.from t.fine }
 
-  module _ (room row p at : ℕ) (v : Passed space s p at) (y : Token) (sc : Scanned s at y) where
-    pub head-refused : (w : ℕ) → y ≡ token.Refused w → HeadMet d s room row p (Refused bad_text w)
+  module _ (room row p at : ℕ) (v : Passed space s p at) where
+    pub head-refused : (k : Refused) → Scanned s at (Err k) → HeadMet d s room row p (Err k)
     unfolding value_at
-    head-refused w e = let x = sc.same ∙ ap (meant s at) e in record { same = λ n. rw (← v.same, x); fine = tt }
+    head-refused k y = record { same = λ n. rw (← v.same, y.same); fine = tt }
 
-    pub head-sign : (c : ℕ) → y ≡ token.Sign c → (r : Head) → ForMet d s room row (a_sign c) at (at + 1) r → HeadMet d s room row p r
-    head-sign c e r t = lifted room row p at (at + 1) (a_sign c) r v (sc.same ∙ ap (meant s at) e) t
+    module _ (t : Token) (y : Scanned s at (Ok t)) (r : Result Head Refused) where
+      pub head-opens : (c : ℕ) (g : Shape) → t ≡ token.Sign c → c ≡ opens g → ForMet d s room row (a_sign (opens g)) at (at + 1) r → HeadMet d s room row p r
+      head-opens c g e f h = lifted room row p at (at + 1) (a_sign (opens g)) r v (y.same ∙ ap (λ (u : Token). meant s at (Ok u)) (e ∙ ap token.Sign f)) h
 
-    pub head-site : (c : ℕ) → y ≡ token.Sign c → Site d s row p → Site d s row (at + 1)
-    head-site c e st =
-        let l : LiesIn s at (token.Sign c) = rw e at sc.lies in
-        record { own = st.own; short = st.short; within = l.within }
+      pub head-string : (q : ℕ) → t ≡ token.String q → AnyMet d s row (a_string (slice (at + 1) q s)) at (q + 1) r → HeadMet d s room row p r
+      head-string q e h = lifted room row p at (q + 1) (a_string (slice (at + 1) q s)) r v (y.same ∙ ap (λ (u : Token). meant s at (Ok u)) e) (h.met room)
 
-    pub head-string : (q : ℕ) → y ≡ token.String q → (r : Head) → AnyMet d s row (a_string (slice (at + 1) q s)) at (q + 1) r → HeadMet d s room row p r
-    head-string q e r t = lifted room row p at (q + 1) (a_string (slice (at + 1) q s)) r v (sc.same ∙ ap (meant s at) e) (t.met room)
+      pub head-null : (q : ℕ) → t ≡ token.Null q → LeafMet d row null_form Null at q r → HeadMet d s room row p r
+      unfolding form_for scalar_for
+      head-null q e h =
+          let x : Scanned s at (Ok (token.Null q)) = rw e at y in
+          let l : LiesIn s at (Ok (token.Null q)) = x.lies in
+          lifted room row p at q a_null r v x.same
+          (leaf-met room row null_form at q Null a_null r h (λ n. refl) (record { spans = l; proper = tt; small = omega (arith, l.further) }))
 
-    pub head-string_in : (q : ℕ) → y ≡ token.String q → Spans s (at + 1) (q + 1)
-    head-string_in q e = rw e at sc.lies
+      pub head-boolean : (b : Bool) (q : ℕ) → t ≡ token.Boolean b q → LeafMet d row boolean_form (Boolean b) at q r → HeadMet d s room row p r
+      unfolding form_for scalar_for
+      head-boolean b q e h =
+          let x : Scanned s at (Ok (token.Boolean b q)) = rw e at y in
+          let l : LiesIn s at (Ok (token.Boolean b q)) = x.lies in
+          lifted room row p at q (a_boolean b) r v x.same
+          (leaf-met room row boolean_form at q (Boolean b) (a_boolean b) r h (λ n. refl) (record { spans = l; proper = tt; small = omega (arith, l.further) }))
 
-    pub head-null : (q : ℕ) → y ≡ token.Null q → (r : Head) → r ≡ fitted_head d row null_form Null at q → HeadMet d s room row p r
-    unfolding form_for scalar_for
-    head-null q e r h =
-        let l : LiesIn s at (token.Null q) = rw e at sc.lies in
-        lifted room row p at q a_null r v (sc.same ∙ ap (meant s at) e)
-        (fitted-met room row null_form at q Null a_null r h (λ n. refl) (record { spans = l; proper = tt; small = omega (arith, l.further) }))
+      pub head-integer : (q : ℕ) → t ≡ token.Integer q → AnyMet d s row (an_integer (slice at q s)) at q r → HeadMet d s room row p r
+      head-integer q e h = lifted room row p at q (an_integer (slice at q s)) r v (y.same ∙ ap (λ (u : Token). meant s at (Ok u)) e) (h.met room)
 
-    pub head-boolean : (b : Bool) (q : ℕ) → y ≡ token.Boolean b q → (r : Head) → r ≡ fitted_head d row boolean_form (Boolean b) at q → HeadMet d s room row p r
-    unfolding form_for scalar_for
-    head-boolean b q e r h =
-        let l : LiesIn s at (token.Boolean b q) = rw e at sc.lies in
-        lifted room row p at q (a_boolean b) r v (sc.same ∙ ap (meant s at) e)
-        (fitted-met room row boolean_form at q (Boolean b) (a_boolean b) r h (λ n. refl) (record { spans = l; proper = tt; small = omega (arith, l.further) }))
+    module _ (t : Token) (y : Scanned s at (Ok t)) (k : Refused) (hp : k.place ≡ at) where
+      pub head-sign : (c : ℕ) → t ≡ token.Sign c → (c ≡ opens Set → ⊥) → (c ≡ opens Array → ⊥) → k.refusal ≡ BadText → HeadMet d s room row p (Err k)
+      head-sign c e ns na f =
+          let x : Scanned s at (Ok (token.Sign c)) = rw e at y in
+          lifted room row p at (at + 1) (a_sign c) (Err k) v x.same
+          (record { same = λ n. rw (ne_eqb c (opens Set) ns, ne_eqb c (opens Array) na, f, hp); fine = tt })
 
-    pub head-integer : (q : ℕ) → y ≡ token.Integer q → (r : Head) → AnyMet d s row (an_integer (slice at q s)) at q r → HeadMet d s room row p r
-    head-integer q e r t = lifted room row p at q (an_integer (slice at q s)) r v (sc.same ∙ ap (meant s at) e) (t.met room)
+      pub head-real : (q : ℕ) → t ≡ token.Real q → k.refusal ≡ NotInBase → HeadMet d s room row p (Err k)
+      unfolding form_for misfit_for
+      head-real q e f =
+          let x : Scanned s at (Ok (token.Real q)) = rw e at y in
+          lifted room row p at q (a_real (slice at q s)) (Err k) v x.same (record { same = λ n. rw (f, hp); fine = tt })
 
-    pub head-integer_in : (q : ℕ) → y ≡ token.Integer q → Integral s at q
-    head-integer_in q e = rw e at sc.lies
+-- where a token lies
+module _ (d s : List ℕ) (row p at : ℕ) (t : Token) (y : Scanned s at (Ok t)) where
+  pub head-site : (c : ℕ) → t ≡ token.Sign c → Site d s row p → Site d s row (at + 1)
+  head-site c e st =
+      let x : Scanned s at (Ok (token.Sign c)) = rw e at y in
+      let l : LiesIn s at (Ok (token.Sign c)) = x.lies in
+      record { own = st.own; short = st.short; within = l.within }
 
-    pub head-real : (q : ℕ) → y ≡ token.Real q → HeadMet d s room row p (Refused not_in_base at)
-    unfolding form_for misfit_for
-    head-real q e =
-        lifted room row p at q (a_real (slice at q s)) (Refused not_in_base at) v (sc.same ∙ ap (meant s at) e)
-        (record { same = λ n. refl; fine = tt })
+  pub head-string_in : (q : ℕ) → t ≡ token.String q → Spans s (at + 1) (q + 1)
+  head-string_in q e = let x : Scanned s at (Ok (token.String q)) = rw e at y in x.lies
 
-pub ruleset heading = (head-refused, head-sign, head-site, head-string, head-string_in, head-null, head-boolean, head-integer, head-integer_in, head-real)
+  pub head-integer_in : (q : ℕ) → t ≡ token.Integer q → Integral s at q
+  head-integer_in q e = let x : Scanned s at (Ok (token.Integer q)) = rw e at y in x.lies
+
+pub ruleset heading = (head-refused, head-opens, head-site, head-string, head-string_in, head-null, head-boolean, head-integer, head-integer_in, head-sign, head-real)
 
 -- a string
 module _ (d s : List ℕ) (row at q : ℕ) where
@@ -142,14 +141,11 @@ module _ (d s : List ℕ) (row at q : ℕ) where
         small = omega (arith, length-append (slice (at + 1) q s) (0 ∷ []), length-slice (at + 1) q s (omega (arith, w.within)), w.further);
       }
 
-  module _ (k : ℕ) (hk : Field (kind d row) 16 k) (w : Spans s (at + 1) (q + 1)) where
-    pub string-option : k ≡ enum_form → Row d row → OptionSite d s row (at + 1) q
-    string-option e o = record { own = o; form = sym hk.same ∙ e; order = omega (arith, w.further); within = omega (arith, w.within) }
+  module _ (w : Spans s (at + 1) (q + 1)) where
+    pub string-option : kind d row ≡ enum_form → Row d row → OptionSite d s row (at + 1) q
+    string-option e o = record { own = o; form = e; order = omega (arith, w.further); within = omega (arith, w.within) }
 
-    module _ (n : k ≡ enum_form → ⊥) where
-      no_enum : eqb (kind d row) enum_form ≡ false
-      no_enum = ne_eqb (kind d row) enum_form (λ e. n (hk.same ∙ e))
-
+    module _ (no_enum : eqb (kind d row) enum_form ≡ false) where
       string-form : (t : List ℕ) → form_for d row (a_string t) ≡ string_form
       unfolding form_for is_enum
       string-form t = rw no_enum
@@ -163,16 +159,13 @@ module _ (d s : List ℕ) (row at q : ℕ) where
           ap (λ (f : ℕ). form_at d s (inside_of d s room) i row f at (q + 1) (a_string t)) (string-form t)
           ∙ ap (λ (v : Valued). (need (eqb (misfit_for d row string_form) accepted) (misfit_for d row string_form) at λ _. value v at λ x. good (q + 1) 0 (plain i x))) (string-scalar t)
 
-      pub string_well : (r : Head) → r ≡ fitted_head d row string_form (String (at + 1) q) at (q + 1) → AnyMet d s row (a_string (slice (at + 1) q s)) at (q + 1) r
+      pub string_well : (r : Result Head Refused) → LeafMet d row string_form (String (at + 1) q) at (q + 1) r → AnyMet d s row (a_string (slice (at + 1) q s)) at (q + 1) r
       string_well r h =
           record {
-            met = λ room. fitted-met d s room row string_form at (q + 1) (String (at + 1) q) (a_string (slice (at + 1) q s)) r h (λ i. string_law room i (slice (at + 1) q s)) (string-leaf w);
+            met = λ room. leaf-met d s room row string_form at (q + 1) (String (at + 1) q) (a_string (slice (at + 1) q s)) r h (λ i. string_law room i (slice (at + 1) q s)) (string-leaf w);
           }
 
-    pub string-fits : length s * 1 < 2 ^ 63 → q + 1 < 2 ^ 64
-    string-fits l = omega (arith, w.within)
-
-pub ruleset stringing = (row_lies, string-option, string_well, string-fits)
+pub ruleset stringing = (row_lies, string-option, string_well)
 
 -- an option
 module _ (d s : List ℕ) (row at q : ℕ) (o : OptionSite d s row (at + 1) q) where
@@ -208,25 +201,22 @@ module _ (d s : List ℕ) (row at q : ℕ) (o : OptionSite d s row (at + 1) q) w
   pub option_in_lem : q ≤ length s
   option_in_lem = omega (arith, o.within)
 
-  pub option-fits : length s * 1 < 2 ^ 63 → q + 1 < 2 ^ 64
-  option-fits l = omega (arith, o.within)
-
-  module _ (c : Child) (hc : c ≡ child_named d row (take (q - (at + 1)) (drop (at + 1) s))) where
+  module _ (c : Maybe ℕ) (hc : c ≡ child_named d row (take (q - (at + 1)) (drop (at + 1) s))) where
     c-is : child_named d row (slice (at + 1) q s) ≡ c
     c-is = sym (hc ∙ ap (child_named d row) part)
 
-    pub option-none : c ≡ Nothing → AnyMet d s row (a_string (slice (at + 1) q s)) at (q + 1) (Refused value_wrong at)
+    pub option-none : c ≡ None → (k : Refused) → k.refusal ≡ ValueWrong → k.place ≡ at → AnyMet d s row (a_string (slice (at + 1) q s)) at (q + 1) (Err k)
     unfolding scalar_for is_enum
-    option-none e = record { met = λ room. record { same = λ n. option_law room n ∙ rw (eq-eqb (kind d row) enum_form o.form, c-is, e); fine = tt } }
+    option-none e k f h = record { met = λ room. record { same = λ n. option_law room n ∙ rw (eq-eqb (kind d row) enum_form o.form, c-is, e, f, h); fine = tt } }
 
-    module _ (x : ℕ) (e : c ≡ At x) where
+    module _ (x : ℕ) (e : c ≡ Some x) where
       pub option-lies : 12 + 10 * x + 10 ≤ length d
       option-lies =
           let f = accepted_family d o.own.accepted row o.own.inside (enum_parent d row o.form) in
           let l = named-child d row (slice (at + 1) q s) f x (c-is ∙ e) in
           row_lies d x (record { accepted = o.own.accepted; inside = l.0 })
 
-      pub option-some : (m : ℕ) → Field (number_in d x) 65536 m → AnyMet d s row (a_string (slice (at + 1) q s)) at (q + 1) (Leaf (Option m) (q + 1))
+      pub option-some : (m : ℕ) → Field (number_in d x) 65536 m → AnyMet d s row (a_string (slice (at + 1) q s)) at (q + 1) (Ok (Leaf (Option m) (q + 1)))
       unfolding scalar_for is_enum
       option-some m hm =
           record {
@@ -236,33 +226,33 @@ module _ (d s : List ℕ) (row at q : ℕ) (o : OptionSite d s row (at + 1) q) w
             };
           }
 
-pub ruleset options = (option-parent, option-taken, option-from, option_in_lem, option-fits, option-none, option-lies, option-some)
+pub ruleset options = (option-parent, option-taken, option-from, option_in_lem, option-none, option-lies, option-some)
 
 -- an integer
-module _ (d s : List ℕ) (row at q m : ℕ) (h : m ≡ misfit_for d row integer_form) (w : Integral s at q) where
+module _ (d s : List ℕ) (row at q : ℕ) (w : Integral s at q) where
   integer_law : (room n : ℕ) → value_for d s (inside_of d s room) n row (an_integer (slice at q s)) at q ≡ (need (eqb (misfit_for d row integer_form) accepted) (misfit_for d row integer_form) at λ _. value (scalar_for d row (an_integer (slice at q s))) at λ x. good q 0 (plain n x))
   unfolding form_for
   integer_law room n = refl
 
-  pub integer-not : (m ≡ accepted → ⊥) → AnyMet d s row (an_integer (slice at q s)) at q (Refused m at)
-  integer-not n = record { met = λ room. record { same = λ i. integer_law room i ∙ rw (← h, ne_eqb m accepted n); fine = tt } }
+  pub integer-not : (k : Refused) → FitMet d row integer_form at (Err k) → AnyMet d s row (an_integer (slice at q s)) at q (Err k)
+  integer-not k h = record { met = λ room. record { same = λ i. integer_law room i ∙ unfit d row integer_form at k _ h; fine = tt } }
 
   pub integer_in : (at < q) × (q ≤ length s) × (integral (slice at q s) ≡ true)
   integer_in = (w.spans.further, w.spans.within, w.grammar)
 
-  module _ (z : m ≡ accepted) (r : Said) (hr : r ≡ integer_said (slice at q s)) where
-    pub integer-wrong : r ≡ Wrong → AnyMet d s row (an_integer (slice at q s)) at q (Refused value_wrong at)
+  module _ (z : misfit_for d row integer_form ≡ accepted) (r : Maybe Integer) (hr : r ≡ integer_said (slice at q s)) where
+    pub integer-wrong : r ≡ None → (k : Refused) → k.refusal ≡ ValueWrong → k.place ≡ at → AnyMet d s row (an_integer (slice at q s)) at q (Err k)
     unfolding scalar_for
-    integer-wrong e = record { met = λ room. record { same = λ i. integer_law room i ∙ rw (← h, eq-eqb m accepted z, ← hr, e); fine = tt } }
+    integer-wrong e k f h = record { met = λ room. record { same = λ i. integer_law room i ∙ rw (z, ← hr, e, f, h); fine = tt } }
 
-    pub integer-is : (i : Integer) → r ≡ Is i → AnyMet d s row (an_integer (slice at q s)) at q (Leaf (leaf.Integer i) q)
+    pub integer-is : (i : Integer) → r ≡ Some i → AnyMet d s row (an_integer (slice at q s)) at q (Ok (Leaf (leaf.Integer i) q))
     unfolding scalar_for
     integer-is i e =
         let held = said-held (slice at q s) r i w.grammar hr e in
         let b = brief_whole i held in
         record {
           met = λ room. record {
-            same = λ n. integer_law room n ∙ rw (← h, eq-eqb m accepted z, ← hr, e);
+            same = λ n. integer_law room n ∙ rw (z, ← hr, e);
             fine = record { spans = w.spans; proper = held; small = omega (arith, b.most, w.spans.further) };
           };
         }

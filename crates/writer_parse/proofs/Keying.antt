@@ -1,6 +1,6 @@
 -- Names, and what stands before a member's value: one lemma for each return.
 -- Assumes nothing.
-use Prim.Native.Nat.{ℕ, ◌+◌, ◌-◌, ◌*◌, ◌^◌, ◌≤◌, ◌<◌}
+use Prim.Native.Nat.{ℕ, ◌+◌, ◌-◌, ◌*◌, ◌≤◌, ◌<◌}
 use mathlib.Core.Path.{◌≡◌, refl, sym, ap, ◌∙◌}
 use mathlib.Core.List.{List, []}
 use mathlib.Core.Bool.{Bool, true, false, not}
@@ -8,12 +8,13 @@ use native.Mathlib.Omega.{arith}
 use lib.ListN.{length, take, drop}
 use lib.Seq.{slice}
 use borrow.Author.Tests.{eq-eqb}
-use Rattle.paper.specs.Refusals.{not_known, given_twice, bad_text}
+use Rattle.paper.specs.Refusals.{given_twice, bad_text}
 use Rattle.paper.specs.Tests.{among}
-use Rattle.paper.specs.Checks.{choose, good, need, after}
+use Rattle.paper.specs.Checks.{choose, refused, good, need, after}
 use Rattle.numbers.proofs.Places.{slice-take}
-use Rattle.dictionary.specs.declared.Child.{Child}
-use Rattle.dictionary.specs.declared.Child.TheVariants.{At, Nothing}
+use Rattle.std.specs.Prelude.{Option, Some, None, Result, Ok, Err}
+use Rattle.paper.specs.declared.Refusal.TheVariants.{NotKnown, BadText}
+use Rattle.paper.specs.declared.Refused.{Refused}
 use Rattle.dictionary.specs.Formats.{set_form, array_form}
 use Rattle.dictionary.specs.Rows.{entries, kind, number_in, first_child}
 use Rattle.dictionary.specs.Children.{child_named, child_numbered}
@@ -31,10 +32,7 @@ use Rattle.writer_tokens.specs.Met.{Passed, Spans, Scanned, meant}
 use Rattle.text.specs.Tokens.{a_string, space}
 use Rattle.text.specs.Writing.{name_for, name_at, colon_at, key_at}
 use Rattle.text.proofs.Labels.{set-parent}
-use Rattle.writer_parse.specs.declared.Due.{Due}
-use Rattle.writer_parse.specs.declared.Due.TheVariants as due
 use Rattle.writer_parse.specs.declared.Key.{Key}
-use Rattle.writer_parse.specs.declared.Key.TheVariants.{Refused, Found}
 use Rattle.writer_parse.specs.Met.{Holder, DueMet, due_of, key_of, KeyAt, KeyMet}
 use Rattle.writer_parse.proofs.Grouping.{row_lies}
 
@@ -61,27 +59,24 @@ module _ (d s : List ℕ) (row at q : ℕ) (o : Holder d s row Set at) (w : Span
   pub child_in : q ≤ length s
   child_in = omega (arith, w.within)
 
-  pub child_fits : length s * 1 < 2 ^ 63 → q + 1 < 2 ^ 64
-  child_fits l = omega (arith, w.within)
-
-  module _ (c : Child) (hc : c ≡ child_named d row (take (q - (at + 1)) (drop (at + 1) s))) where
+  module _ (c : Option ℕ) (hc : c ≡ child_named d row (take (q - (at + 1)) (drop (at + 1) s))) where
     c-is : child_named d row (slice (at + 1) q s) ≡ c
     c-is = sym (hc ∙ ap (child_named d row) part)
 
-    pub child-none : c ≡ Nothing → KeyMet d s row at (name_for d s (a_string (slice (at + 1) q s)) row at (q + 1)) (Refused not_known at)
-    child-none e = record { same = rw (c-is, e); lies = tt }
+    pub child-none : c ≡ None → (k : Refused) → k.refusal ≡ NotKnown → k.place ≡ at → KeyMet d s row at (name_for d s (a_string (slice (at + 1) q s)) row at (q + 1)) (Err k)
+    child-none e k f h = record { same = rw (c-is, e, f, h); lies = tt }
 
-    module _ (x : ℕ) (e : c ≡ At x) where
+    module _ (x : ℕ) (e : c ≡ Some x) where
       pub child-row : Row d x
       child-row = record { accepted = o.site.own.accepted; inside = (named-child d row (slice (at + 1) q s) family x (c-is ∙ e)).0 }
 
       pub child-lies : 12 + 10 * x + 10 ≤ length d
       child-lies = row_lies d x child-row
 
-      finds : (m : ℕ) → Field (number_in d x) 65536 m → child_numbered d row m ≡ At x
+      finds : (m : ℕ) → Field (number_in d x) 65536 m → child_numbered d row m ≡ Some x
       finds m hm = ap (child_numbered d row) hm.same ∙ (named-child d row (slice (at + 1) q s) family x (c-is ∙ e)).2
 
-      pub child-some : (m : ℕ) → Field (number_in d x) 65536 m → KeyMet d s row at (name_for d s (a_string (slice (at + 1) q s)) row at (q + 1)) (Found (q + 1) m x)
+      pub child-some : (m : ℕ) → Field (number_in d x) 65536 m → KeyMet d s row at (name_for d s (a_string (slice (at + 1) q s)) row at (q + 1)) (Ok (record { next = q + 1; number = m; row = x }))
       unfolding child
       child-some m hm =
           let f = finds m hm in
@@ -98,43 +93,35 @@ module _ (d s : List ℕ) (row at q : ℕ) (o : Holder d s row Set at) (w : Span
                 };
           }
 
-pub ruleset childing = (child-parent, child-taken, child-from, child_in, child_fits, child-none, child-lies, child-some)
+pub ruleset childing = (child-parent, child-taken, child-from, child_in, child-none, child-lies, child-some)
 
 -- a name
-module _ (d s : List ℕ) (row at : ℕ) (y : Token) (sc : Scanned s at y) where
-  pub name-refused : (w : ℕ) → y ≡ token.Refused w → KeyMet d s row at (name_at d s row at) (Refused bad_text w)
+module _ (d s : List ℕ) (row at : ℕ) where
+  pub name-refused : (k : Refused) → Scanned s at (Err k) → KeyMet d s row at (name_at d s row at) (Err k)
   unfolding name_at
-  name-refused w e = let x = sc.same ∙ ap (meant s at) e in record { same = rw x; lies = tt }
+  name-refused k y = record { same = rw y.same; lies = tt }
 
-  pub name-sign : (c : ℕ) → y ≡ token.Sign c → KeyMet d s row at (name_at d s row at) (Refused bad_text at)
-  unfolding name_at
-  name-sign c e = let x = sc.same ∙ ap (meant s at) e in record { same = rw x; lies = tt }
+  module _ (t : Token) (y : Scanned s at (Ok t)) where
+    pub name_in : (q : ℕ) → t ≡ token.String q → Spans s (at + 1) (q + 1)
+    name_in q e = let x : Scanned s at (Ok (token.String q)) = rw e at y in x.lies
 
-  pub name-null : (q : ℕ) → y ≡ token.Null q → KeyMet d s row at (name_at d s row at) (Refused bad_text at)
-  unfolding name_at
-  name-null q e = let x = sc.same ∙ ap (meant s at) e in record { same = rw x; lies = tt }
-
-  pub name-boolean : (b : Bool) (q : ℕ) → y ≡ token.Boolean b q → KeyMet d s row at (name_at d s row at) (Refused bad_text at)
-  unfolding name_at
-  name-boolean b q e = let x = sc.same ∙ ap (meant s at) e in record { same = rw x; lies = tt }
-
-  pub name-integer : (q : ℕ) → y ≡ token.Integer q → KeyMet d s row at (name_at d s row at) (Refused bad_text at)
-  unfolding name_at
-  name-integer q e = let x = sc.same ∙ ap (meant s at) e in record { same = rw x; lies = tt }
-
-  pub name-real : (q : ℕ) → y ≡ token.Real q → KeyMet d s row at (name_at d s row at) (Refused bad_text at)
-  unfolding name_at
-  name-real q e = let x = sc.same ∙ ap (meant s at) e in record { same = rw x; lies = tt }
-
-  module _ (q : ℕ) (e : y ≡ token.String q) where
-    pub name_in : Spans s (at + 1) (q + 1)
-    name_in = rw e at sc.lies
-
-    pub name-string : (r : Key) → KeyMet d s row at (name_for d s (a_string (slice (at + 1) q s)) row at (q + 1)) r → KeyMet d s row at (name_at d s row at) r
+    pub name-string : (q : ℕ) → t ≡ token.String q → (r : Result Key Refused) → KeyMet d s row at (name_for d s (a_string (slice (at + 1) q s)) row at (q + 1)) r → KeyMet d s row at (name_at d s row at) r
     unfolding name_at
-    name-string r t = let x = sc.same ∙ ap (meant s at) e in record { same = rw x t.same; lies = t.lies }
+    name-string q e r h = let x : Scanned s at (Ok (token.String q)) = rw e at y in record { same = rw x.same h.same; lies = h.lies }
 
-pub ruleset naming = (name-refused, name-sign, name-null, name-boolean, name-integer, name-real, name_in, name-string)
+    pub name-other : ((q : ℕ) → t ≡ token.String q → ⊥) → (k : Refused) → k.refusal ≡ BadText → k.place ≡ at → KeyMet d s row at (name_at d s row at) (Err k)
+    unfolding name_at
+    name-other x k f h = record { same = rw (y.same, f, h) (other t x); lies = tt }
+      where
+        other : (t : Token) → ((q : ℕ) → t ≡ token.String q → ⊥) → after (meant s at (Ok t)) (λ q _ k. name_for d s k row at q) ≡ refused bad_text at
+        other (token.Sign b) x = refl
+        other (token.String q) x = absurd (x q refl)
+        other (token.Null q) x = refl
+        other (token.Boolean b q) x = refl
+        other (token.Integer q) x = refl
+        other (token.Real q) x = refl
+
+pub ruleset naming = (name-refused, name_in, name-string, name-other)
 
 -- where no number was seen, none was given
 pub never_given : (d : List ℕ) (row n : ℕ) → fresh d row [] n ≡ true
@@ -149,41 +136,40 @@ never_given d row n = go (is_set d row)
 pub after-spaces : (d s : List ℕ) (row : ℕ) (g : Shape) (p at : ℕ) → Holder d s row g p → Passed space s p at → Holder d s row g at
 after-spaces d s row g p at o v = record { site = record { own = o.site.own; short = o.site.short; within = v.within }; form = o.form }
 
-module _ (d s : List ℕ) (row p at : ℕ) (v : Passed space s p at) (y : Key) (h : KeyMet d s row at (name_at d s row at) y) where
-  pub name_law : (i : ℕ) (seen : List ℕ) → key_at d s Set row i seen p ≡ (after (key_of d s y) λ e _ n. need (fresh d row seen n) given_twice at λ _. after (colon_at s e) λ z _ _. good z 0 n)
+-- the same child, with the place after its colon
+pub key_further : (d s : List ℕ) (row p at : ℕ) → Passed space s p at → (k : Key) → KeyAt d s row at k → (z : ℕ) → Spans s k.next z → KeyAt d s row p (record { next = z; number = k.number; row = k.row })
+key_further d s row p at v k h z l =
+    record { from = omega (arith, h.from, v.from, l.further); within = l.within; own = h.own; child_is = h.child_is; finds = h.finds; number = h.number }
+
+module _ (d s : List ℕ) (row p at : ℕ) (v : Passed space s p at) where
+  pub name_law : (y : Result Key Refused) → KeyMet d s row at (name_at d s row at) y → (i : ℕ) (seen : List ℕ) → key_at d s Set row i seen p ≡ (after (key_of d s y) λ e _ n. need (fresh d row seen n) given_twice at λ _. after (colon_at s e) λ z _ _. good z 0 n)
   unfolding key_at
-  name_law i seen = rw (← v.same, h.same)
+  name_law y h i seen = rw (← v.same, h.same)
 
-  pub key_unnamed : (k w : ℕ) → y ≡ Refused k w → KeyMet d s row p (key_at d s Set row 0 [] p) (Refused k w)
-  key_unnamed k w e = record { same = name_law 0 [] ∙ rw e; lies = tt }
+  pub key_unnamed : (k : Refused) → KeyMet d s row at (name_at d s row at) (Err k) → KeyMet d s row p (key_at d s Set row 0 [] p) (Err k)
+  key_unnamed k h = record { same = name_law _ h 0 []; lies = tt }
 
-  module _ (q n c : ℕ) (e : y ≡ Found q n c) where
-    pub key_named : KeyAt d s row at q n c
-    key_named = rw e at h.lies
+  module _ (k : Key) (h : KeyMet d s row at (name_at d s row at) (Ok k)) where
+    pub key_named : KeyAt d s row at k
+    key_named = h.lies
 
-    pub key_within : q ≤ length s
+    pub key_within : k.next ≤ length s
     key_within = key_named.within
 
-    pub key_further : (z : ℕ) → Spans s q z → KeyAt d s row p z n c
-    key_further z l =
-        let k = key_named in
-        record { from = omega (arith, k.from, v.from, l.further); within = l.within; own = k.own; child_is = k.child_is; finds = k.finds; number = k.number }
+    on_law : (t : Result ℕ Refused) → DueMet s k.next t → key_at d s Set row 0 [] p ≡ (after (due_of t) λ z _ _. good z 0 k.number)
+    on_law t u = name_law _ h 0 [] ∙ rw (never_given d row k.number, u.same)
 
-    module _ (t : Due) (u : DueMet s q t) where
-      on_law : key_at d s Set row 0 [] p ≡ (after (due_of t) λ z _ _. good z 0 n)
-      on_law = name_law 0 [] ∙ rw (e, never_given d row n, u.same)
+    pub key_missing : (e : Refused) → DueMet s k.next (Err e) → KeyMet d s row p (key_at d s Set row 0 [] p) (Err e)
+    key_missing e u = record { same = on_law _ u; lies = tt }
 
-      pub key_missing : (w : ℕ) → t ≡ due.Refused w → KeyMet d s row p (key_at d s Set row 0 [] p) (Refused bad_text w)
-      key_missing w x = record { same = on_law ∙ rw x; lies = tt }
-
-      pub key_met : (z : ℕ) → t ≡ due.Met z → KeyMet d s row p (key_at d s Set row 0 [] p) (Found z n c)
-      key_met z x = record { same = on_law ∙ rw x; lies = key_further z (rw x at u.lies) }
+    pub key_met : (z : ℕ) → DueMet s k.next (Ok z) → KeyMet d s row p (key_at d s Set row 0 [] p) (Ok (record { next = z; number = k.number; row = k.row }))
+    key_met z u = record { same = on_law _ u; lies = key_further d s row p at v k key_named z u.lies }
 
 pub ruleset membering = (after-spaces, key_unnamed, key_within, key_missing, key_met)
 
 -- a member
 module _ (d s : List ℕ) (g : Shape) (row i p : ℕ) (o : Holder d s row g p) where
-  pub key_array : g ≡ Array → i ≤ p → (f : ℕ) → Field (first_child d row) 65536 f → KeyMet d s row p (key_at d s g row i [] p) (Found p i f)
+  pub key_array : g ≡ Array → i ≤ p → (f : ℕ) → Field (first_child d row) 65536 f → KeyMet d s row p (key_at d s g row i [] p) (Ok (record { next = p; number = i; row = f }))
   unfolding key_at
   key_array e l f hf =
       let k : kind d row ≡ array_form = o.form ∙ rw e in
@@ -204,7 +190,7 @@ module _ (d s : List ℕ) (g : Shape) (row i p : ℕ) (o : Holder d s row g p) w
             };
       })
 
-  pub key_set : g ≡ Set → (r : Key) → KeyMet d s row p (key_at d s Set row 0 [] p) r → KeyMet d s row p (key_at d s g row i [] p) r
+  pub key_set : g ≡ Set → (r : Result Key Refused) → KeyMet d s row p (key_at d s Set row 0 [] p) r → KeyMet d s row p (key_at d s g row i [] p) r
   unfolding key_at
   key_set e r t = rw e (record { same = t.same; lies = t.lies })
 

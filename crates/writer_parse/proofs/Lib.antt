@@ -1,5 +1,4 @@
--- The laws of signs, values and names.
-pub mod Signing
+-- The laws of values and names.
 pub mod Grouping
 pub mod Heading
 pub mod Keying

@@ -1,94 +1,70 @@
 // Whether a format fits a row, and the front of an object or an array.
 ghost use Rattle.std.specs.Prelude.{◌≡◌, ◌+◌};
+ghost use Rattle.dictionary.specs.Formats.{form_number};
 ghost use Rattle.dictionary.specs.Given.{Row};
 ghost use Rattle.payload.specs.Text.{opens};
 ghost use Rattle.text.specs.Tokens.{a_sign};
-ghost use Rattle.text.specs.Values.{in_base, unfit_for, misfit_for};
-ghost use Rattle.writer_parse.specs.Met.{Site, ForMet};
+ghost use Rattle.text.specs.Values.{in_base, misfit_for};
+ghost use Rattle.writer_parse.specs.Met.{Site, misfit_said, FitMet, ForMet};
 
-use crate::signs::sign_at;
-use crate::{Head, Sign, Value};
-use dictionary::formats::{NULL, REAL};
-use dictionary::rows::format_nibble;
-use paper::{ACCEPTED, BAD_TEXT, MISFIT, NOT_IN_BASE, TOO_DEEP};
+use crate::{Head, Value};
+use dictionary::formats::Format;
+use dictionary::rows::format_of;
+use paper::{Refusal, Refused};
 use payload::Shape;
-use payload::formats::{fits, supported};
-use payload::shapes::{closes, opens, shape_format};
-use writer_tokens::tokens::skip;
+use payload::formats::fits;
+use writer_tokens::Token;
+use writer_tokens::tokens::{skip, token_at};
 
+#[tactic(auto, unfolding(text::specs::Values::in_base, payload::specs::Reading::supported))]
 fn in_base(d: &[u8], row: usize) -> bool
     requires { Row d.now row }
     ensures { result ≡ in_base d.now row }
 {
-    supported(16 * format_nibble(d, row))
+    matches!(format_of(d, row), Some(f) if f != Format::Real)
 }
 
-fn unfit(d: &[u8], row: usize, f: usize) -> u8
+// "fraction or exponent 8, row of a format not in the base and value not null 8, fit 9": of every number f, as `fits` is.
+#[tactic(auto, unfolding(text::specs::Values::misfit_for))]
+pub fn misfit(d: &[u8], row: usize, f: usize) -> Result<(), Refusal>
     requires { Row d.now row }
-    ensures { result ≡ unfit_for d.now row f }
+    ensures { misfit_for d.now row f ≡ misfit_said result }
 {
-    if fits(d, row, f) {
-        return ACCEPTED;
+    if f == Format::Real as usize || f != Format::Null as usize && !in_base(d, row) {
+        Err(Refusal::NotInBase)
+    } else if fits(d, row, f) {
+        Ok(())
+    } else {
+        Err(Refusal::Misfit)
     }
-    MISFIT
 }
 
-// "fraction or exponent 8, row of a format not in the base and value not null 8, fit 9"
-pub fn misfit(d: &[u8], row: usize, f: usize) -> u8
+pub fn fit_at(d: &[u8], row: usize, f: Format, at: usize) -> Result<(), Refused>
     requires { Row d.now row }
-    ensures { result ≡ misfit_for d.now row f }
+    ensures { FitMet d.now row (form_number f) at result }
 {
-    if f == REAL {
-        return NOT_IN_BASE;
-    }
-    if f == NULL {
-        return unfit(d, row, f);
-    }
-    if in_base(d, row) {
-        return unfit(d, row, f);
-    }
-    NOT_IN_BASE
+    misfit(d, row, f.number()).map_err(|k| k.at(at))
 }
 
 // An object or array whose first bracket stands at `at`.
-pub fn group_at(d: &[u8], s: &[u8], room: usize, row: usize, g: Shape, at: usize) -> Head
+pub fn group_at(
+    d: &[u8],
+    s: &[u8],
+    room: usize,
+    row: usize,
+    g: Shape,
+    at: usize,
+) -> Result<Head, Refused>
     requires { Site d.now s.now row (at + 1) }
     ensures { ForMet d.now s.now room row (a_sign (opens g)) at (at + 1) result }
 {
-    let fault = misfit(d, row, shape_format(g));
-    if fault != ACCEPTED {
-        return Head::Refused(fault, at);
-    }
+    fit_at(d, row, g.format(), at)?;
     if room == 0 {
-        return Head::Refused(TOO_DEEP, at);
+        return Err(Refusal::TooDeep.at(at));
     }
     let first = skip(s, at + 1);
-    match sign_at(s, first) {
-        Sign::Refused(w) => {
-            return Head::Refused(BAD_TEXT, w);
-        }
-        Sign::Other => {
-            return Head::Many(g, first);
-        }
-        Sign::Is(c) => {
-            if c == closes(g) {
-                return Head::Leaf(Value::Empty(g), first + 1);
-            }
-            return Head::Many(g, first);
-        }
+    match token_at(s, first)? {
+        Token::Sign(c) if c == g.closes() => Ok(Head::Leaf(Value::Empty(g), first + 1)),
+        _ => Ok(Head::Many(g, first)),
     }
-}
-
-// Of the signs, only those that open an object or an array begin a value.
-pub fn opened_at(d: &[u8], s: &[u8], room: usize, row: usize, c: u8, at: usize) -> Head
-    requires { Site d.now s.now row (at + 1) }
-    ensures { ForMet d.now s.now room row (a_sign c) at (at + 1) result }
-{
-    if c == opens(Shape::Set) {
-        return group_at(d, s, room, row, Shape::Set, at);
-    }
-    if c == opens(Shape::Array) {
-        return group_at(d, s, room, row, Shape::Array, at);
-    }
-    Head::Refused(BAD_TEXT, at)
 }

@@ -7,78 +7,61 @@ ghost use Rattle.text.specs.Writing.{name_for, name_at, key_at};
 ghost use Rattle.writer_tokens.specs.Met.{Spans};
 ghost use Rattle.writer_parse.specs.Met.{Holder, KeyMet};
 
+use crate::Key;
 use crate::signs::colon_at;
-use crate::{Due, Key};
-use dictionary::Child;
 use dictionary::children::child_named;
 use dictionary::rows::{first_child, sequence_number};
-use paper::{BAD_TEXT, NOT_KNOWN};
+use paper::{Refusal, Refused};
 use payload::Shape;
 use writer_tokens::Token;
 use writer_tokens::tokens::{skip, token_at};
 
 // The child whose name is the string from `at` to its quote at q.
-fn child_at(d: &[u8], s: &[u8], row: usize, at: usize, q: usize) -> Key
+fn child_at(d: &[u8], s: &[u8], row: usize, at: usize, q: usize) -> Result<Key, Refused>
     requires holder { Holder d.now s.now row Set at }
     requires spans { Spans s.now (at + 1) (q + 1) }
     ensures { KeyMet d.now s.now row at (name_for d.now s.now (a_string (slice (at + 1) q s.now)) row at (q + 1)) result }
 {
-    let from = at + 1;
-    let name = &s[from..q];
-    match child_named(d, row, name) {
-        Child::Nothing => {
-            return Key::Refused(NOT_KNOWN, at);
-        }
-        Child::At(c) => {
-            return Key::Found(q + 1, sequence_number(d, c), c);
-        }
-    }
+    let child = child_named(d, row, &s[at + 1..q]).ok_or(Refusal::NotKnown.at(at))?;
+    Ok(Key {
+        next: q + 1,
+        number: sequence_number(d, child),
+        row: child,
+    })
 }
 
 // "then for a name 6"
-pub fn name_at(d: &[u8], s: &[u8], row: usize, at: usize) -> Key
+pub fn name_at(d: &[u8], s: &[u8], row: usize, at: usize) -> Result<Key, Refused>
     requires { Holder d.now s.now row Set at }
     ensures { KeyMet d.now s.now row at (name_at d.now s.now row at) result }
 {
-    match token_at(s, at) {
-        Token::Refused(w) => Key::Refused(BAD_TEXT, w),
-        Token::Sign(_) => Key::Refused(BAD_TEXT, at),
+    match token_at(s, at)? {
         Token::String(q) => child_at(d, s, row, at, q),
-        Token::Null(_) => Key::Refused(BAD_TEXT, at),
-        Token::Boolean(_, _) => Key::Refused(BAD_TEXT, at),
-        Token::Integer(_) => Key::Refused(BAD_TEXT, at),
-        Token::Real(_) => Key::Refused(BAD_TEXT, at),
+        _ => Err(Refusal::BadText.at(at)),
     }
 }
 
-fn named_at(d: &[u8], s: &[u8], row: usize, p: usize) -> Key
+fn named_at(d: &[u8], s: &[u8], row: usize, p: usize) -> Result<Key, Refused>
     requires { Holder d.now s.now row Set p }
     ensures { KeyMet d.now s.now row p (key_at d.now s.now Set row 0 [] p) result }
 {
-    let at = skip(s, p);
-    match name_at(d, s, row, at) {
-        Key::Refused(k, w) => {
-            return Key::Refused(k, w);
-        }
-        Key::Found(q, n, c) => match colon_at(s, q) {
-            Due::Refused(w) => {
-                return Key::Refused(BAD_TEXT, w);
-            }
-            Due::Met(z) => {
-                return Key::Found(z, n, c);
-            }
-        },
-    }
+    let key = name_at(d, s, row, skip(s, p))?;
+    let next = colon_at(s, key.next)?;
+    Ok(Key { next, ..key })
 }
 
 // The i-th member of a group.
-pub fn key_at(d: &[u8], s: &[u8], g: Shape, row: usize, i: usize, p: usize) -> Key
+pub fn key_at(d: &[u8], s: &[u8], g: Shape, row: usize, i: usize, p: usize) -> Result<Key, Refused>
     requires holder { Holder d.now s.now row g p }
     requires index_in { i ≤ p }
     ensures { KeyMet d.now s.now row p (key_at d.now s.now g row i [] p) result }
 {
     match g {
-        Shape::Array => Key::Found(p, i, first_child(d, row)),
+        Shape::Array => Ok(Key {
+            next: p,
+            number: i,
+            row: first_child(d, row),
+        }),
         Shape::Set => named_at(d, s, row, p),
     }
 }

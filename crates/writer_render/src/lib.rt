@@ -4,10 +4,9 @@
 pub mod rendering;
 pub mod tuples;
 
-// Where the second pass is: in the text, in the slots, in the output.
-#[derive(Clone, Copy)]
+// Where the second pass is: in the text and in the slots.
+#[derive(Clone, Copy, PartialEq, Eq)]
 pub struct Place {
     pub at: usize,
     pub slot: usize,
-    pub pos: usize,
 }

@@ -2,73 +2,56 @@
 ghost use Rattle.writer_render.specs.Met.{Ready, Rendered};
 
 use crate::Place;
-use crate::tuples::{put_leaf, put_opening, size_in};
+use crate::tuples::{put_leaf, put_opening};
+use numbers::output::Output;
+use writer_parse::Head;
 use writer_parse::heads::head_at;
 use writer_parse::keys::key_at;
-use writer_parse::{Head, Key};
 use writer_tokens::tokens::skip;
 
-// The value at p, which the first pass has taken.
+// The value at a place, which the first pass has taken: so that neither it nor a member's name is refused.
 pub fn render(
+    out: &mut Output,
     d: &[u8],
     s: &[u8],
+    slots: &[u16],
     room: usize,
     row: usize,
     n: usize,
-    p: usize,
-    slots: &[u16],
-    k: usize,
-    out: &mut [u8],
-    pos: usize,
+    from: Place,
 ) -> Place
-    requires { Ready d.now s.now room row n p slots.now k out.old pos }
-    ensures { Rendered d.now s.now room row n p k out.old pos result out.new }
+    requires { Ready d.now s.now slots.now room row n from out.old }
+    ensures { Rendered d.now s.now room row n from out.old result out.new }
 {
-    match head_at(d, s, room, row, p) {
-        Head::Refused(_, w) => {
-            return Place {
-                at: w,
-                slot: k,
-                pos: pos,
-            };
-        }
-        Head::Leaf(v, q) => {
-            let w = put_leaf(out, pos, s, n, v);
-            return Place {
-                at: q,
-                slot: k,
-                pos: w,
-            };
+    match head_at(d, s, room, row, from.at).unwrap() {
+        Head::Leaf(v, next) => {
+            put_leaf(out, s, n, v);
+            Place {
+                at: next,
+                slot: from.slot,
+            }
         }
         Head::Many(g, first) => {
-            let count = size_in(slots, k + 1);
-            let mut w = put_opening(out, pos, n, g, size_in(slots, k), count);
-            let mut at = first;
-            let mut slot = k + 2;
-            let mut i: usize = 0;
-            while i < count {
-                match key_at(d, s, g, row, i, at) {
-                    Key::Refused(_, z) => {
-                        return Place {
-                            at: z,
-                            slot: slot,
-                            pos: w,
-                        };
-                    }
-                    Key::Found(q, m, c) => {
-                        let r = render(d, s, room - 1, c, m, q, slots, slot, out, w);
-                        at = skip(s, r.at) + 1;
-                        slot = r.slot;
-                        w = r.pos;
-                        i += 1;
-                    }
-                }
-            }
-            return Place {
-                at: at,
-                slot: slot,
-                pos: w,
+            let size = usize::from(slots[from.slot]);
+            let count = usize::from(slots[from.slot + 1]);
+            put_opening(out, n, g, size, count);
+            let mut place = Place {
+                at: first,
+                slot: from.slot + 2,
             };
+            for i in 0..count {
+                let key = key_at(d, s, g, row, i, place.at).unwrap();
+                let member = Place {
+                    at: key.next,
+                    slot: place.slot,
+                };
+                let end = render(out, d, s, slots, room - 1, key.row, key.number, member);
+                place = Place {
+                    at: skip(s, end.at) + 1,
+                    slot: end.slot,
+                };
+            }
+            place
         }
     }
 }

@@ -10,6 +10,7 @@ ghost use Rattle.writer_sizes.specs.Met.{Long};
 use numbers::{integer_width, number_width};
 use writer_parse::Value;
 
+#[tactic(auto, using(crate::proofs::Lengthy::number_lengths))]
 pub fn number_long(n: usize) -> usize
     ensures { Long (length (number_of n)) 5 result }
 {
@@ -17,6 +18,7 @@ pub fn number_long(n: usize) -> usize
 }
 
 // A tuple whose V has `size` bytes.
+#[tactic(auto, using(crate::proofs::Lengthy::tuple_lengths))]
 pub fn tuple_long(n: usize, size: usize) -> usize
     requires { (n < 2 ^ 31) × (size < 2 ^ 32) }
     ensures { result ≡ tuple_long n size }
@@ -24,6 +26,7 @@ pub fn tuple_long(n: usize, size: usize) -> usize
     number_long(2 * n) + 1 + number_long(size) + size
 }
 
+#[tactic(auto, using(crate::proofs::Lengthy::value_lengths))]
 pub fn value_long(s: &[u8], v: Value) -> usize
     requires { Proper s.now v }
     ensures { result ≡ length (bytes_for s.now v) }

@@ -1,123 +1,66 @@
 // Bytes by class, and runs of them.
-ghost use Rattle.std.specs.Prelude.{◌≡◌, ◌≤◌, length};
-ghost use Rattle.numbers.specs.Decimal.{digit};
+ghost use Rattle.std.specs.Prelude.{◌≡◌, ◌≤◌, ℕ, Bool, length};
+ghost use Rattle.numbers.specs.Decimal.{digit, digits_only};
 ghost use Rattle.text.specs.Tokens.{space, sign, letter, word_byte};
-ghost use Rattle.text.specs.Numerals.{integer_byte};
-ghost use Rattle.writer_tokens.specs.Met.{test_of, Passed};
+ghost use Rattle.text.specs.Numerals.{integer_byte, leading};
+ghost use Rattle.text.specs.Scanning.{past};
 
-use crate::Class;
-use payload::strings::string_byte;
-
-fn space_byte(c: u8) -> bool
+#[tactic(auto, unfolding(text::specs::Tokens::space))]
+pub(crate) fn space_byte(c: u8) -> bool
     ensures { result ≡ space c }
 {
-    if c == 0x20 {
-        return true;
-    }
-    if c == 0x09 {
-        return true;
-    }
-    if c == 0x0A {
-        return true;
-    }
-    c == 0x0D
+    matches!(c, b' ' | b'\t' | b'\n' | b'\r')
 }
 
+#[tactic(auto, unfolding(text::specs::Tokens::sign))]
 pub fn sign_byte(c: u8) -> bool
     ensures { result ≡ sign c }
 {
-    if c == b'{' {
-        return true;
-    }
-    if c == b'}' {
-        return true;
-    }
-    if c == b'[' {
-        return true;
-    }
-    if c == b']' {
-        return true;
-    }
-    if c == b':' {
-        return true;
-    }
-    c == b','
+    matches!(c, b'{' | b'}' | b'[' | b']' | b':' | b',')
 }
 
-fn digit_byte(c: u8) -> bool
-    ensures { result ≡ digit c }
-{
-    if c < b'0' {
-        return false;
-    }
-    c <= b'9'
-}
-
-fn letter_byte(c: u8) -> bool
-    ensures { result ≡ letter c }
-{
-    if c < b'A' {
-        return false;
-    }
-    if c <= b'Z' {
-        return true;
-    }
-    if c < b'a' {
-        return false;
-    }
-    c <= b'z'
-}
-
-fn word_byte(c: u8) -> bool
+#[tactic(auto, unfolding(text::specs::Tokens::word_byte, text::specs::Tokens::letter))]
+pub(crate) fn word_byte(c: u8) -> bool
     ensures { result ≡ word_byte c }
 {
-    if letter_byte(c) {
-        return true;
-    }
-    if digit_byte(c) {
-        return true;
-    }
-    if c == b'+' {
-        return true;
-    }
-    if c == b'-' {
-        return true;
-    }
-    c == b'.'
+    matches!(c, b'A'..=b'Z' | b'a'..=b'z' | b'0'..=b'9' | b'+' | b'-' | b'.')
 }
 
-fn integer_byte(c: u8) -> bool
+pub(crate) fn integer_byte(c: u8) -> bool
     ensures { result ≡ integer_byte c }
 {
-    if c == b'-' {
-        return true;
-    }
-    digit_byte(c)
+    c == b'-' || c.is_ascii_digit()
 }
 
-fn belongs(class: Class, c: u8) -> bool
-    ensures { result ≡ test_of class c }
+// How many bytes from the front of w are of a run, by the test of its bytes.
+pub(crate) fn leading<F: Fn(u8) -> bool>(w: &[u8], belongs: F) -> usize
+    requires { F.IsAlwaysCallable belongs }
+    ensures within { result ≤ length w.now }
+    ensures same { (P : ℕ → Bool) → ((c : ℕ) (b : Bool) → F.post belongs c b → b ≡ P c) → result ≡ leading P w.now }
 {
-    match class {
-        Class::Spaces => space_byte(c),
-        Class::Strings => string_byte(c),
-        Class::Words => word_byte(c),
-        Class::Digits => digit_byte(c),
-        Class::Integers => integer_byte(c),
-    }
+    w.iter().take_while(|c| belongs(**c)).count()
 }
 
-// The first place from `at` on whose byte is of another class, or the end.
-pub fn run_end(class: Class, s: &[u8], at: usize) -> usize
-    requires { at ≤ length s.now }
-    ensures { Passed (test_of class) s.now at result }
+// The first place from `at` on whose byte is not of the run, or the end.
+pub fn run_end<F: Fn(u8) -> bool>(s: &[u8], at: usize, belongs: F) -> usize
+    requires at_in { at ≤ length s.now }
+    requires callable { F.IsAlwaysCallable belongs }
+    ensures from { at ≤ result }
+    ensures within { result ≤ length s.now }
+    ensures same { (P : ℕ → Bool) → ((c : ℕ) (b : Bool) → F.post belongs c b → b ≡ P c) → result ≡ past P s.now at }
 {
-    let mut q = at;
-    while q < s.len() {
-        if !belongs(class, s[q]) {
-            return q;
-        }
-        q += 1;
-    }
-    q
+    at + leading(&s[at..], belongs)
+}
+
+pub(crate) fn leading_digits(w: &[u8]) -> usize
+    ensures same { result ≡ leading digit w.now }
+    ensures within { result ≤ length w.now }
+{
+    leading(w, |c| c.is_ascii_digit())
+}
+
+pub(crate) fn digits_only(w: &[u8]) -> bool
+    ensures { result ≡ digits_only w.now }
+{
+    w.iter().all(|c| c.is_ascii_digit())
 }

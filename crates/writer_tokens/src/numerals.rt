@@ -1,110 +1,68 @@
-// The numbers of RFC 8259, over the bytes of one word.
-ghost use Rattle.std.specs.Prelude.{◌≡◌, ◌+◌, ◌≤◌, length, drop};
+// The numbers of RFC 8259, section 6.
+ghost use Rattle.std.specs.Prelude.{◌≡◌};
 ghost use Rattle.numbers.specs.Decimal.{plain, integral};
 ghost use Rattle.text.specs.Numerals.{some_digits, exponent, fraction, numeral};
-ghost use Rattle.writer_tokens.specs.Met.{Unsigned};
 
-use crate::Class;
-use crate::bytes::run_end;
+use crate::bytes::{digits_only, integer_byte, leading, leading_digits};
 
 // 0, or digits of which the first is not 0.
-fn plain_from(w: &[u8], at: usize) -> bool
-    requires { at ≤ length w.now }
-    ensures { result ≡ plain (drop at w.now) }
+#[tactic(auto, using(crate::proofs::Grammar::plains))]
+fn is_plain(w: &[u8]) -> bool
+    ensures { result ≡ plain w.now }
 {
-    let n = w.len();
-    if n <= at {
-        return false;
+    match w {
+        [b'0'] => true,
+        [b'1'..=b'9', rest @ ..] => digits_only(rest),
+        _ => false,
     }
-    if run_end(Class::Digits, w, at) < n {
-        return false;
-    }
-    if n == at + 1 {
-        return true;
-    }
-    w[at] != b'0'
 }
 
+#[tactic(auto, using(crate::proofs::Grammar::integrals))]
 pub fn is_integral(w: &[u8]) -> bool
     ensures { result ≡ integral w.now }
 {
-    if w.len() == 0 {
-        return false;
+    match w {
+        [b'-', rest @ ..] => is_plain(rest),
+        _ => is_plain(w),
     }
-    if w[0] == b'-' {
-        return plain_from(w, 1);
-    }
-    plain_from(w, 0)
 }
 
-fn some_digits(w: &[u8], at: usize) -> bool
-    requires { at ≤ length w.now }
-    ensures { result ≡ some_digits (drop at w.now) }
+fn some_digits(w: &[u8]) -> bool
+    ensures { result ≡ some_digits w.now }
 {
-    let n = w.len();
-    if n <= at {
-        return false;
-    }
-    run_end(Class::Digits, w, at) == n
+    !w.is_empty() && digits_only(w)
 }
 
-// The place after a sign, if one stands at `at`.
-fn after_sign(w: &[u8], at: usize) -> usize
-    requires { at ≤ length w.now }
-    ensures { Unsigned w.now at result }
+// ([eE] [+-]? [0-9]+)?
+#[tactic(auto, using(crate::proofs::Grammar::exponents))]
+fn is_exponent(w: &[u8]) -> bool
+    ensures { result ≡ exponent w.now }
 {
-    if w.len() <= at {
-        return at;
+    match w {
+        [] => true,
+        [b'e' | b'E', b'+' | b'-', digits @ ..] => some_digits(digits),
+        [b'e' | b'E', digits @ ..] => some_digits(digits),
+        _ => false,
     }
-    if w[at] == b'+' {
-        return at + 1;
-    }
-    if w[at] == b'-' {
-        return at + 1;
-    }
-    at
 }
 
-fn exponent_from(w: &[u8], at: usize) -> bool
-    requires { at ≤ length w.now }
-    ensures { result ≡ exponent (drop at w.now) }
+// (. [0-9]+)? and what may follow it
+#[tactic(auto, using(crate::proofs::Grammar::fractions))]
+fn is_fraction(w: &[u8]) -> bool
+    ensures { result ≡ fraction w.now }
 {
-    if w.len() <= at {
-        return true;
+    match w {
+        [b'.', rest @ ..] => {
+            let (digits, after) = rest.split_at(leading_digits(rest));
+            !digits.is_empty() && is_exponent(after)
+        }
+        _ => is_exponent(w),
     }
-    if w[at] == b'E' {
-        return some_digits(w, after_sign(w, at + 1));
-    }
-    if w[at] == b'e' {
-        return some_digits(w, after_sign(w, at + 1));
-    }
-    false
-}
-
-fn fraction_from(w: &[u8], at: usize) -> bool
-    requires { at ≤ length w.now }
-    ensures { result ≡ fraction (drop at w.now) }
-{
-    if w.len() <= at {
-        return true;
-    }
-    if w[at] != b'.' {
-        return exponent_from(w, at);
-    }
-    let end = run_end(Class::Digits, w, at + 1);
-    if end == at + 1 {
-        return false;
-    }
-    exponent_from(w, end)
 }
 
 pub fn is_numeral(w: &[u8]) -> bool
     ensures { result ≡ numeral w.now }
 {
-    let end = run_end(Class::Integers, w, 0);
-    let front = &w[..end];
-    if !is_integral(front) {
-        return false;
-    }
-    fraction_from(w, end)
+    let (front, rest) = w.split_at(leading(w, integer_byte));
+    is_integral(front) && is_fraction(rest)
 }

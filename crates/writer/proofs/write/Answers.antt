@@ -6,14 +6,11 @@ use Rattle.writer.proofs.write.Goals as goal
 pub returns-then-not-accepts : goal.returns-then-not-accepts
 returns-then-not-accepts c = search entries
 
-pub returns-then-text-lt-TEXT_LEAST : goal.returns-then-text-lt-TEXT_LEAST
-returns-then-text-lt-TEXT_LEAST c = search entries
-
-pub returns-then-text-gt-TEXT_MOST : goal.returns-then-text-gt-TEXT_MOST
-returns-then-text-gt-TEXT_MOST c = search entries
-
 pub written-requires : goal.written-requires
 written-requires c = search entries
+
+pub returns-then-text-lt-TEXT_LEAST : goal.returns-then-text-lt-TEXT_LEAST
+returns-then-text-lt-TEXT_LEAST c = search (entries, c.then-text-lt-TEXT_LEAST.either)
 
 pub returns : goal.returns
 returns c = search entries

@@ -9,7 +9,7 @@ abbrev pub decreases-measure : goal.decreases-measure
 decreases-measure l = l.room
 
 abbrev pub invariant-loop-was : goal.invariant-loop-was
-invariant-loop-was l = Gathering l.d l.s l.room l.row l.n l.p l.k l.initial.slots l.g l.first l.slots l.bits l.was
+invariant-loop-was l = Gathering l.d l.s l.room l.row l.n l.p l.k l.initial.slots l.g l.first l.slots l.roll l.was
 
 abbrev pub decreases-loop-was : goal.decreases-loop-was
 decreases-loop-was l = length l.s - l.was.at

@@ -1,17 +1,26 @@
--- `writer_parse::keys::child_at` meets its contract: the name is a child's, or none's.
+-- `writer_parse::keys::child_at` meets its contract: the child of the name, or none.
 -- Assumes nothing.
-use Rattle.std.proofs.Common.{rules}
+use Rattle.std.proofs.Common.{◌≡◌, rules, arith, Some, None}
+use Rattle.std.proofs.lemmas.Result.{err_from_is_err_and}
 use Rattle.writer_parse.proofs.Keying.{childing}
 use Rattle.writer_parse.proofs.keys.child_at.Goals as goal
 
 pub child_named-requires-clause-row_in : goal.child_named-requires-clause-row_in
 child_named-requires-clause-row_in c = search (childing, rules)
 
-pub returns-in-Nothing : goal.returns-in-Nothing
-returns-in-Nothing c = search (childing, rules)
+pub returns-in_err-child : goal.returns-in_err-child
+returns-in_err-child c =
+    let p = err_from_is_err_and c.from_residual.result c.from_residual.ensures.1 in
+    let n : c.child_named.result ≡ None = grind arith in
+    let k : c.in_err-child.field-0.0 ≡ c.at.result = grind arith in
+    rw (p.1, p.2, k) (search (childing, rules))
 
 pub sequence_number-requires : goal.sequence_number-requires
-sequence_number-requires c = search (childing, rules)
+sequence_number-requires c =
+    let k : c.child_named.result ≡ Some c.in_ok-child.child = grind arith in
+    search (childing, rules)
 
-pub returns-in-At : goal.returns-in-At
-returns-in-At c = search (childing, rules)
+pub returns : goal.returns
+returns c =
+    let k : c.child_named.result ≡ Some c.in_ok-child.child = grind arith in
+    search (childing, rules)

@@ -9,3 +9,6 @@ returns-in-Null c = search (bodies, rules)
 
 pub returns-in-String : goal.returns-in-String
 returns-in-String c = search (bodies, rules)
+
+pub put-requires-in-String : goal.put-requires-in-String
+put-requires-in-String c = search (bodies, rules)

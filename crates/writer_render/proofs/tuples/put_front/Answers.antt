@@ -4,14 +4,14 @@ use Rattle.std.proofs.Common.{rules}
 use Rattle.writer_render.proofs.Puts.{fronts}
 use Rattle.writer_render.proofs.tuples.put_front.Goals as goal
 
-pub put_number-v-requires : goal.put_number-v-requires
-put_number-v-requires c = search (fronts, rules)
-
-pub put-w-requires : goal.put-w-requires
-put-w-requires c = search (fronts, rules)
-
 pub put_number-requires : goal.put_number-requires
 put_number-requires c = search (fronts, rules)
+
+pub put-requires : goal.put-requires
+put-requires c = search (fronts, rules)
+
+pub put_number-requires-2 : goal.put_number-requires-2
+put_number-requires-2 c = search (fronts, rules)
 
 pub returns : goal.returns
 returns c = search (fronts, rules)

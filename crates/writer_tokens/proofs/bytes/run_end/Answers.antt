@@ -1,14 +1,9 @@
--- `writer_tokens::bytes::run_end` meets its contract: what is left of the run ends where the whole does.
+-- `writer_tokens::bytes::run_end` meets its contract: the place comes from how many bytes lead what is left.
 -- Assumes nothing.
-use Rattle.std.proofs.Common.{rules}
-use Rattle.writer_tokens.proofs.Runs.{going}
+use Rattle.text.specs.Scanning.{past}
+use Rattle.writer_tokens.proofs.Grammar.{rest_from}
 use Rattle.writer_tokens.proofs.bytes.run_end.Goals as goal
 
-pub returns-then-not-belongs : goal.returns-then-not-belongs
-returns-then-not-belongs c = search (going, rules)
-
-pub loop-q-preserved : goal.loop-q-preserved
-loop-q-preserved c = search (going, rules)
-
-pub returns : goal.returns
-returns c = search (going, rules)
+pub returns-clause-same : goal.returns-clause-same
+unfolding past
+returns-clause-same g c P h = rw (c.leading.ensures.same P h, rest_from c.args.s.now c.args.at)

@@ -1,14 +1,24 @@
 -- `writer_tokens::tokens::string_at` meets its contract: the run's end is a quote, the text's end, or a byte that no string has.
 -- Assumes nothing.
-use Rattle.std.proofs.Common.{rules}
-use Rattle.writer_tokens.proofs.Lexing.{stringings}
+use Rattle.std.proofs.Common.{◌≡◌, rules, tests, arith, ◌+◌}
+use Rattle.payload.specs.Strings.{string_byte}
+use Rattle.text.specs.Scanning.{string_at, past}
 use Rattle.writer_tokens.proofs.tokens.string_at.Goals as goal
 
-pub returns-then-end-q : goal.returns-then-end-q
-returns-then-end-q c = search (stringings, rules)
+pub returns-in-Some-eq34 : goal.returns-in-Some-eq34
+unfolding string_at
+returns-in-Some-eq34 c =
+    let e : c.run_end-q.result ≡ past string_byte c.args.s.now (c.args.at + 1) = search (rules, tests) in
+    grind (arith, tests)
 
-pub returns-then-s-q-ne34 : goal.returns-then-s-q-ne34
-returns-then-s-q-ne34 c = search (stringings, rules)
+pub returns-in-Some : goal.returns-in-Some
+unfolding string_at
+returns-in-Some c =
+    let e : c.run_end-q.result ≡ past string_byte c.args.s.now (c.args.at + 1) = search (rules, tests) in
+    grind (arith, tests)
 
-pub returns : goal.returns
-returns c = search (stringings, rules)
+pub returns-in-None : goal.returns-in-None
+unfolding string_at
+returns-in-None c =
+    let e : c.run_end-q.result ≡ past string_byte c.args.s.now (c.args.at + 1) = search (rules, tests) in
+    grind (arith, tests)

@@ -1,17 +1,22 @@
 -- `writer_tokens::tokens::token_at` meets its contract: the end, a sign, a string or a word.
 -- Assumes nothing.
-use Rattle.std.proofs.Common.{rules}
-use Rattle.writer_tokens.proofs.Lexing.{tokens}
+use Rattle.std.proofs.Common.{tests, arith}
+use Rattle.text.specs.Scanning.{token_at}
+use Rattle.writer_tokens.proofs.Lexing.{scanned}
 use Rattle.writer_tokens.proofs.tokens.token_at.Goals as goal
 
-pub returns-then-n-at : goal.returns-then-n-at
-returns-then-n-at c = search (tokens, rules)
+pub returns-in-Some : goal.returns-in-Some
+unfolding token_at
+returns-in-Some c = scanned _ _ _ (grind (arith, tests))
 
-pub returns-then-sign_byte : goal.returns-then-sign_byte
-returns-then-sign_byte c = search (tokens, rules)
+pub returns-in-Some-eq34 : goal.returns-in-Some-eq34
+unfolding token_at
+returns-in-Some-eq34 c = scanned _ _ _ (grind (arith, tests))
 
-pub returns-then-c-eq34 : goal.returns-then-c-eq34
-returns-then-c-eq34 c = search (tokens, rules)
+pub returns-in-Some-2 : goal.returns-in-Some-2
+unfolding token_at
+returns-in-Some-2 c = scanned _ _ _ (grind (arith, tests))
 
-pub returns : goal.returns
-returns c = search (tokens, rules)
+pub returns-in-None : goal.returns-in-None
+unfolding token_at
+returns-in-None c = scanned _ _ _ (grind (arith, tests))

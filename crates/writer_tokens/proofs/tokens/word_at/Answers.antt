@@ -1,17 +1,31 @@
 -- `writer_tokens::tokens::word_at` meets its contract: each word, or a number.
 -- Assumes nothing.
-use Rattle.std.proofs.Common.{rules}
-use Rattle.writer_tokens.proofs.Lexing.{wordings}
+use Rattle.std.proofs.Common.{rules, tests, arith}
+use Rattle.text.specs.Tokens.{word_byte}
+use Rattle.text.specs.Scanning.{word_at, numeral_at}
+use Rattle.writer_tokens.proofs.Lexing.{part, worded, spelt}
 use Rattle.writer_tokens.proofs.tokens.word_at.Goals as goal
 
-pub returns-then-spells : goal.returns-then-spells
-returns-then-spells c = search (wordings, rules)
+pub returns-in-null : goal.returns-in-null
+unfolding word_at numeral_at
+returns-in-null c = worded _ _ _ _ (c.run_end-q.ensures.same word_byte (λ c b p. search (rules, tests))) (search rules) (grind (arith, tests, spelt, part))
 
-pub returns-then-spells-2 : goal.returns-then-spells-2
-returns-then-spells-2 c = search (wordings, rules)
+pub returns-in-true : goal.returns-in-true
+unfolding word_at numeral_at
+returns-in-true c = worded _ _ _ _ (c.run_end-q.ensures.same word_byte (λ c b p. search (rules, tests))) (search rules) (grind (arith, tests, spelt, part))
 
-pub returns-then-spells-3 : goal.returns-then-spells-3
-returns-then-spells-3 c = search (wordings, rules)
+pub returns-in-false : goal.returns-in-false
+unfolding word_at numeral_at
+returns-in-false c = worded _ _ _ _ (c.run_end-q.ensures.same word_byte (λ c b p. search (rules, tests))) (search rules) (grind (arith, tests, spelt, part))
 
-pub returns : goal.returns
-returns c = search (wordings, rules)
+pub returns-in_default : goal.returns-in_default
+unfolding word_at numeral_at
+returns-in_default c = worded _ _ _ _ (c.run_end-q.ensures.same word_byte (λ c b p. search (rules, tests))) (search rules) (grind (arith, tests, spelt, part))
+
+pub returns-in_default-2 : goal.returns-in_default-2
+unfolding word_at numeral_at
+returns-in_default-2 c = worded _ _ _ _ (c.run_end-q.ensures.same word_byte (λ c b p. search (rules, tests))) (search rules) (grind (arith, tests, spelt, part))
+
+pub returns-in_default-3 : goal.returns-in_default-3
+unfolding word_at numeral_at
+returns-in_default-3 c = worded _ _ _ _ (c.run_end-q.ensures.same word_byte (λ c b p. search (rules, tests))) (search rules) (grind (arith, tests, spelt, part))
