@@ -3,11 +3,8 @@ pub mod Answered
 pub mod Places
 pub mod Soundness
 pub mod Settling
+pub mod Finding
 pub mod Scanning
-pub mod Reaching
-pub mod Answering
-pub mod Entering
+pub mod Calling
 pub mod Supplying
-pub mod Copying
-pub mod Filling
-pub mod Sifting
+pub mod Sorting

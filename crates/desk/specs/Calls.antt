@@ -4,22 +4,51 @@
 --   fed_store                                                  the store after a feed; no other call is lent it
 --   kept_from                                                  where in the store a feed keeps its bytes
 --   told, listed                                              what status and list answer; the desk stays
+--   said                                                      the number that an answer of the code says: 0, or the refusal's in the table
+--   moved, told_moved, telling_of, listing_of                 what the code hands back, said so
 -- The orders of the tests stand in admit, open_number and call_number; what a call does to a record stands in Moves.
-use Rattle.std.specs.Prelude.{ℕ, ◌+◌, ◌*◌, ◌≡◌, Bool, not, cond, List, [], length, eqb}
+use Rattle.std.specs.Prelude.{ℕ, ◌+◌, ◌*◌, ◌≡◌, Bool, not, cond, List, [], length, eqb, Result, Ok, Err}
 use Rattle.std.proofs.Math.Seq.{paste}
 use Rattle.paper.specs.Checks.{choose}
 use Rattle.paper.specs.Limits.{declared_most, store_bytes}
 use Rattle.paper.specs.Refusals.{accepted, not_sound, number_zero, in_use, all_taken, no_such_number, not_allowed, open_wrong, amount_wrong}
+use Rattle.paper.specs.Refusal.{number_of}
+use Rattle.paper.specs.declared.Refusal.{Refusal}
 use Rattle.desk_records.specs.declared.Record.{Record}
 use Rattle.desk.specs.declared.Desk.{Desk}
 use Rattle.desk_records.specs.declared.Finish.{Finish}
-use Rattle.desk.specs.declared.Moved.{Moved}
-use Rattle.desk.specs.declared.Told.{Told}
-use Rattle.desk.specs.declared.Listed.{Listed}
+use Rattle.desk.specs.declared as code
 use Rattle.desk_records.specs.Record.{empty, suits}
 use Rattle.desk_records.specs.Moves.{Move, opening, feeding, starting, finishing, taking, killing, closing}
 use Rattle.desk.specs.Desk.{place, sound, has, record_of, put}
 use Rattle.desk.specs.Listing.{numbers, rising, then_zeros}
+
+-- "A desk is a value: each call takes one and hands back the next." The number is 0 or the refusal's.
+pub record Moved : Type 0 where
+  pub desk : Desk
+  pub number : ℕ
+
+-- Status and list change nothing, so that they hand back no desk.
+pub record Told : Type 0 where
+  pub number : ℕ
+  pub state : ℕ
+  pub received : ℕ
+  pub due : ℕ
+
+pub record Listed : Type 0 where
+  pub number : ℕ
+  pub operations : List ℕ
+
+-- the number of an answer: acceptance is 0
+abbrev pub said : Result (Unit {0}) Refusal → ℕ
+said (Ok x) = accepted
+said (Err k) = number_of k
+
+abbrev pub moved : Desk → Result (Unit {0}) Refusal → Moved
+moved d r = record { desk = d; number = said r }
+
+abbrev pub told_moved : code.Moved.Moved → Moved
+told_moved m = moved m.desk m.answer
 
 -- a test with the number that is given where it fails; the tests after it wait
 abbrev pub unless : Bool → ℕ → (Unit {0} → ℕ) → ℕ
@@ -110,6 +139,11 @@ status_number d n = admit d n λ _. accepted
 abbrev pub telling : ℕ → Record → Told
 telling number r = record { number = number; state = r.state; received = r.received; due = r.due }
 
+-- a refusal tells zeros
+abbrev pub telling_of : Result code.Told.Told Refusal → Told
+telling_of (Ok t) = record { number = accepted; state = t.state; received = t.received; due = t.due }
+telling_of (Err k) = telling (number_of k) empty
+
 unfoldable pub told : Desk → ℕ → Told
 told d n = telling (status_number d n) (cond (eqb (status_number d n) accepted) (record_of n d) empty)
 
@@ -123,3 +157,7 @@ listed d = record {
   number = list_number d;
   operations = then_zeros (cond (eqb (list_number d) accepted) (rising (numbers d.records)) []);
 }
+
+abbrev pub listing_of : Result (List ℕ) Refusal → Listed
+listing_of (Ok ns) = record { number = accepted; operations = ns }
+listing_of (Err k) = record { number = number_of k; operations = then_zeros [] }

@@ -3,7 +3,7 @@
 use Prim.Native.Nat.{ℕ, zero, suc, ◌+◌, ◌*◌, ◌^◌, ◌<◌, ◌≤◌}
 use mathlib.Core.Path.{◌≡◌, refl, sym, ap, ◌∙◌}
 use mathlib.Core.List.{List, [], ◌∷◌, ◌++◌, append_assoc}
-use mathlib.Core.Option.{Option, none, some}
+use Rattle.std.specs.Prelude.{Option, None, Some}
 use native.Mathlib.Omega.{arith}
 use lib.ListN.{length, take, drop, length-append, length-drop, take-append-drop}
 use lib.Seq.{take-add, length-take-le}
@@ -129,12 +129,12 @@ records_long (r ∷ rs) =
     let f = record_long r in
     length-append (encode_record r) (encode_records rs) ∙ omega arith
 
-pub decode-encode : (d : Desk) → length d.records ≡ desk_most → AllNarrow d.records → decode (encode d) ≡ some d
+pub decode-encode : (d : Desk) → length d.records ≡ desk_most → AllNarrow d.records → decode (encode d) ≡ Some d
 unfolding decode
 decode-encode d l h =
     let e : length (encode_records d.records) ≡ desk_bytes = records_long d.records ∙ ap (λ (n : ℕ). n * record_bytes) l in
     rw (eq-eqb _ _ e)
-    (ap (λ (rs : List Record). some (record { records = rs })) (ap (λ (n : ℕ). decode_records n (encode_records d.records)) (sym l) ∙ records_back d.records h))
+    (ap (λ (rs : List Record). Some (record { records = rs })) (ap (λ (n : ℕ). decode_records n (encode_records d.records)) (sym l) ∙ records_back d.records h))
 
 pub records_narrow : (count : ℕ) (bs : List ℕ) → Bytes bs → length bs ≡ count * record_bytes → AllNarrow (decode_records count bs)
 unfolding decode_records
@@ -156,24 +156,24 @@ records_forth (suc count) bs b h =
     (take-append-drop record_bytes bs)
 
 -- what bytes that spell a desk are, and which spell none
-pub decode-some : (bs : List ℕ) (d : Desk) → decode bs ≡ some d → (length bs ≡ desk_bytes) × (◌≡◌ {A = Desk} (record { records = decode_records desk_most bs }) d)
+pub decode-some : (bs : List ℕ) (d : Desk) → decode bs ≡ Some d → (length bs ≡ desk_bytes) × (◌≡◌ {A = Desk} (record { records = decode_records desk_most bs }) d)
 unfolding decode
 decode-some bs d h =
     split (eqb (length bs) (desk_bytes))
     (λ t.
-    let e : ◌≡◌ {A = Option Desk} (some (record { records = decode_records desk_most bs })) (some d) = rw t at h in
+    let e : ◌≡◌ {A = Option Desk} (Some (record { records = decode_records desk_most bs })) (Some d) = rw t at h in
     let f : ◌≡◌ {A = Desk} (record { records = decode_records desk_most bs }) d = cc in
     (eqb-true _ _ t, f))
     (λ t.
-    let e : ◌≡◌ {A = Option Desk} none (some d) = rw t at h in
+    let e : ◌≡◌ {A = Option Desk} None (Some d) = rw t at h in
     let z : ◌≡◌ {A = ℕ} 0 1 = cc in
     absurd (omega arith))
 
-pub decode-none : (bs : List ℕ) → (length bs ≡ desk_bytes → ⊥) → decode bs ≡ none
+pub decode-none : (bs : List ℕ) → (length bs ≡ desk_bytes → ⊥) → decode bs ≡ None
 unfolding decode
 decode-none bs z = rw (ne_eqb (length bs) (desk_bytes) z)
 
-pub encode-decode : (bs : List ℕ) (d : Desk) → Bytes bs → decode bs ≡ some d → encode d ≡ bs
+pub encode-decode : (bs : List ℕ) (d : Desk) → Bytes bs → decode bs ≡ Some d → encode d ≡ bs
 encode-decode bs d b h =
     let e = decode-some bs d h in
     ap (λ (d : Desk). encode d) (sym e.1) ∙ records_forth desk_most bs b e.0

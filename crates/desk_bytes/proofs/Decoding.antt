@@ -1,26 +1,27 @@
--- A desk read from its bytes, one lemma for each return and each turn.
+-- A desk read from its bytes, one lemma for each return.
 -- Assumes nothing.
-use Prim.Native.Nat.{ℕ, suc, ◌+◌, ◌*◌, ◌-◌, ◌<◌, ◌≤◌}
+use Prim.Native.Nat.{ℕ, zero, suc, ◌+◌, ◌*◌, ◌-◌, ◌<◌, ◌≤◌}
 use mathlib.Core.Path.{◌≡◌, refl, sym, ap, ◌∙◌}
-use mathlib.Core.Bool.{true, false, true≢false}
-use mathlib.Core.List.{List, [], ◌∷◌, ◌++◌}
-use mathlib.Core.Option.{some}
-use native.Mathlib.Numerals.{add-one}
+use mathlib.Core.List.{List, [], ◌∷◌}
 use native.Mathlib.Omega.{arith}
-use lib.ListN.{length, take, drop, set, length-set}
+use lib.ListN.{length, drop, get_or}
 use lib.Seq.{drop-drop}
-use borrow.Author.Tests.{eq-eqb}
+use lib.Dec.{eqb}
+use borrow.Author.Tests.{eq-eqb, eqb-true, eqb-false}
+use Rattle.paper.proofs.Tests.{split}
+use Rattle.std.specs.Prelude.{false, None, Some}
+use Rattle.std.specs.Fn.{Called}
+use Rattle.std.specs.Array.{IsFromFnResultFrom}
+use denote.Param.Members.{Mut}
 use Rattle.paper.specs.Limits.{desk_most}
 use Rattle.numbers.specs.Bytes.{little}
 use Rattle.numbers.specs.Met.{Summed}
 use Rattle.numbers.proofs.Places.{slice-take}
 use Rattle.desk_records.specs.declared.Record.{Record}
-use Rattle.desk.specs.declared.Desk.{Desk}
-use Rattle.desk.specs.Desk.{put, fresh_desk}
+use Rattle.desk_records.specs.Record.{empty}
 use Rattle.desk_bytes.specs.Bytes.{Field, from_numbers, record_bytes, desk_bytes, decode_fields, decode_record, decode_records, decode}
+use Rattle.desk_bytes.specs.Coded.{Spells}
 use Rattle.desk_bytes.proofs.Codec.{decode-none}
-use Rattle.desk.proofs.Filling.{take-set, append_one, take_all}
-use Rattle.desk_bytes.specs.Coded.{Spells, Decoded, Decoding}
 
 pub field-done : (s : List ℕ) (at width r : ℕ) → Summed s at (at + width) false r → Spells s at width r
 field-done s at width r h =
@@ -51,62 +52,34 @@ record_done s at a b c d e f p q r t u v =
     ∙ ap (λ l. e ∷ l) (step s _ _ (at + 12) (at + 12 + 4) f v refl
     ∙ ap (λ l. f ∷ l) (fields-none (drop (at + 12 + 4) s)))))))))
 
-records_suc : (k : ℕ) (s : List ℕ) (p : ℕ) → decode_records (suc k) (drop p s) ≡ decode_record (drop p s) ∷ decode_records k (drop (p + record_bytes) s)
+-- records that are the bytes' one by one are all of them
+records_so : (k : ℕ) (s : List ℕ) (at : ℕ) (rs : List Record) → length rs ≡ k → ((i : ℕ) → i < k → get_or rs i empty ≡ decode_record (drop (at + record_bytes * i) s)) → rs ≡ decode_records k (drop at s)
 unfolding decode_records
-records_suc k s p = rw (drop-drop record_bytes p s)
+records_so zero s at [] l h = refl
+records_so zero s at (r ∷ rs) l h = absurd (omega arith)
+records_so (suc k) s at [] l h = absurd (omega arith)
+records_so (suc k) s at (r ∷ rs) l h =
+    let a : r ≡ decode_record (drop at s) = h 0 (omega arith) ∙ ap (λ p. decode_record (drop p s)) (omega arith) in
+    let b = records_so k s (at + record_bytes) rs (omega arith) (λ i m. h (suc i) (omega arith) ∙ ap (λ p. decode_record (drop p s)) (omega arith)) in
+    rw (a, b) (ap (λ x. decode_record (drop at s) ∷ decode_records k x) (sym (drop-drop record_bytes at s)))
 
-records_none : (s : List ℕ) → decode_records 0 s ≡ []
-unfolding decode_records
-records_none s = refl
+-- an array made of the answers to 0, 1, .. of a closure that stays as it is
+pub made_so : {F B : Type 0} (g : Mut F (ℕ × Unit {0}) B) (f : F) (ys : List B) (h : ℕ → B) → ((i : ℕ) (y : B) (q : F) → Called g f (i, tt) y q → (q ≡ f) × (y ≡ h i))
+    → (n i : ℕ) → IsFromFnResultFrom g f ys i n → (k : ℕ) (d : B) → i ≤ k → k < i + n → get_or ys k d ≡ h k
+made_so g f ys h c zero i x k d a b = absurd (omega arith)
+made_so g f ys h c (suc n) i x k d a b =
+    let e = c i x.1 x.0 x.3 in
+    split (eqb k i)
+    (λ t. rw (eqb-true k i t) (x.2.1 d ∙ e.1))
+    (λ t. let z = eqb-false k i t in made_so g f ys h c n (i + 1) (rw e.0 at x.4) k d (omega arith) (omega arith))
 
 module _ (s : List ℕ) where
-  pub decode-not : (d : Desk) → d ≡ fresh_desk → (length s ≡ desk_bytes → ⊥) → Decoded s (record { good = false; desk = d })
-  decode-not d e z = record { same = decode-none s z; blank = λ f. e }
+  pub decode-not : (length s ≡ desk_bytes → ⊥) → None ≡ decode s
+  decode-not z = sym (decode-none s z)
 
-  pub decode-start : (d : Desk) → d ≡ fresh_desk → Decoding s 0 d
-  decode-start d e = record { within = omega arith; eight = ap (λ (x : Desk). length x.records) e; left = refl }
+  pub decode-done : length s ≡ desk_bytes → (rs : List Record) → length rs ≡ desk_most → ((i : ℕ) → i < desk_most → get_or rs i empty ≡ decode_record (drop (record_bytes * i) s))
+      → Some (record { records = rs }) ≡ decode s
+  unfolding decode
+  decode-done l rs e h = rw (eq-eqb (length s) desk_bytes l) (ap (λ (x : List Record). Some (record { records = x })) (records_so desk_most s 0 rs e (λ i m. h i m ∙ ap (λ p. decode_record (drop p s)) (omega arith))))
 
-  moved : (t t' c c' p p' : ℕ) (xs : List Record) → t ≡ t' → c ≡ c' → p ≡ p'
-      → take t xs ++ decode_records c (drop p s) ≡ take t' xs ++ decode_records c' (drop p' s)
-  moved t t' c c' p p' xs e f g = rw (e, f, g)
-
-  -- one record more
-  turn : (xs : List Record) (i : ℕ) → i < length xs → (k : ℕ)
-      → take (suc i) (set xs i (decode_record (drop (record_bytes * i) s))) ++ decode_records k (drop (record_bytes * i + record_bytes) s) ≡ take i xs ++ decode_records (suc k) (drop (record_bytes * i) s)
-  turn xs i h k =
-      ap (λ (x : List Record). x ++ decode_records k (drop (record_bytes * i + record_bytes) s)) (take-set xs i (decode_record (drop (record_bytes * i) s)) h)
-      ∙ append_one (take i xs) (decode_records k (drop (record_bytes * i + record_bytes) s)) (decode_record (drop (record_bytes * i) s))
-      ∙ ap (λ (x : List Record). take i xs ++ x) (sym (records_suc k s (record_bytes * i)))
-
-  module _ (i : ℕ) (d : Desk) (w : Decoding s i d) where
-    pub decode-more : (a : Record) → i < desk_most → a ≡ decode_record (drop (record_bytes * i) s) → Decoding s (i + 1) (put d i a)
-    decode-more a h e =
-        let k : desk_most - i ≡ suc (desk_most - 1 - i) = omega arith in
-        let l : i < length d.records = omega (arith, w.eight) in
-        record {
-          within = omega arith;
-          eight = length-set d.records i a ∙ w.eight;
-          left =
-              moved (i + 1) (suc i) (desk_most - (i + 1)) (desk_most - 1 - i) (record_bytes * (i + 1)) (record_bytes * i + record_bytes) (set d.records i a) (add-one i) (omega arith) (omega arith)
-              ∙ ap (λ (v : Record). take (suc i) (set d.records i v) ++ decode_records (desk_most - 1 - i) (drop (record_bytes * i + record_bytes) s)) e
-              ∙ turn d.records i l (desk_most - 1 - i)
-              ∙ ap (λ (x : ℕ). take i d.records ++ decode_records x (drop (record_bytes * i) s)) (sym k)
-              ∙ w.left;
-        }
-
-    over : desk_most ≤ i → d.records ≡ decode_records desk_most s
-    over h =
-        let k : desk_most - i ≡ 0 = omega arith in
-        sym (take_all d.records i (omega (arith, w.eight)))
-        ∙ ap (λ (x : List Record). take i d.records ++ x) (sym (ap (λ (x : ℕ). decode_records x (drop (record_bytes * i) s)) k ∙ records_none (drop (record_bytes * i) s)))
-        ∙ w.left
-
-    pub decode-done : length s ≡ desk_bytes → desk_most ≤ i → Decoded s (record { good = true; desk = d })
-    unfolding decode
-    decode-done l h =
-        record {
-          same = rw (eq-eqb (length s) desk_bytes l) (ap (λ (rs : List Record). some (record { records = rs })) (sym (over h)));
-          blank = λ f. absurd (true≢false f);
-        }
-
-pub ruleset decodes = (field-done, record_done, decode-start, decode-more, decode-done)
+pub ruleset decodes = (field-done, record_done)

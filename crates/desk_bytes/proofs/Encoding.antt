@@ -6,79 +6,89 @@ use mathlib.Core.Bool.{true, false}
 use mathlib.Core.List.{List, [], ◌∷◌, ◌++◌, append-nil}
 use native.Mathlib.Numerals.{add-one}
 use native.Mathlib.Omega.{arith}
-use lib.ListN.{length, drop, get_or, length-drop, drop_of_length-le}
+use lib.ListN.{length, drop, get_or, drop_of_length-le}
 use lib.Seq.{drop-cons}
 use borrow.Author.Tests.{eq-eqb, ne_eqb}
 use Rattle.paper.specs.Limits.{desk_most}
 use Rattle.numbers.specs.Bytes.{lowest}
-use Rattle.numbers.specs.Met.{Wrote}
-use Rattle.numbers.proofs.Putting.{lowest-long}
-use Rattle.numbers.proofs.Writing.{joined, as_long, front, Writing, begun, onward, ended, room}
+use Rattle.numbers.specs.declared.output.Output.{Output}
+use Rattle.numbers.specs.Output.{Room, Added}
+use Rattle.numbers.proofs.Writing.{front}
+use Rattle.numbers.proofs.Adding.{Adding, begun, onward, ended, room, room-first, given_back}
 use Rattle.desk_records.specs.declared.Record.{Record}
 use Rattle.desk.specs.declared.Desk.{Desk}
 use Rattle.desk_records.specs.Record.{empty}
-use Rattle.desk_bytes.specs.Bytes.{record_bytes, desk_bytes, encode_fields, encode_record, encode_records}
-use Rattle.desk_bytes.specs.Coded.{KindWrote, Encoded}
+use Rattle.desk_bytes.specs.Bytes.{Field, bytes, layout, record_bytes, desk_bytes, encode_fields, encode_record, encode_records}
+use Rattle.desk_bytes.specs.Coded.{Encoded}
 use Rattle.desk_bytes.proofs.Codec.{records_long}
 
-place_of : (o : List ℕ) (p k n r : ℕ) (o' : List ℕ) → Wrote o p (lowest k n) r o' → r ≡ p + k
-place_of o p k n r o' w = w.place ∙ ap (λ (x : ℕ). p + x) (lowest-long k n)
+-- a record's fields, one after the other
+module _ (r : Record) (o : Output) (h : Room o (encode_record r)) where
+  -- before the fields fs, of which f is the first
+  abbrev Before : List Field → Output → Type 0
+  Before fs o' = Adding o (encode_record r) o' (encode_fields fs r)
 
--- a record's first three numbers, one after the other
-module _ (r : Record) (o : List ℕ) (pos : ℕ) (h : pos + 4 ≤ length o) (a : ℕ) (o1 : List ℕ) (w1 : Wrote o pos (lowest 2 r.number) a o1) where
-  e1 : a ≡ pos + 2
-  e1 = place_of o pos 2 r.number a o1 w1
+  start : Before layout o
+  unfolding encode_record
+  start = begun o (encode_record r)
 
-  pub room-kind : a + 1 ≤ length o1
-  room-kind = omega (arith, e1, as_long w1)
+  module _ (f : Field) (fs : List Field) where
+    cons : encode_fields (f ∷ fs) r ≡ lowest f.width (f.of r) ++ encode_fields fs r
+    unfolding encode_fields
+    cons = refl
 
-  module _ (b : ℕ) (o2 : List ℕ) (w2 : Wrote o1 a (lowest 1 r.kind) b o2) where
-    e2 : b ≡ a + 1
-    e2 = place_of o1 a 1 r.kind b o2 w2
+    field_room : {o' : Output} → Before (f ∷ fs) o' → Room o' (lowest f.width (f.of r))
+    field_room {o'} w = room-first o' (lowest f.width (f.of r)) (encode_fields fs r) (rw cons at (room h w))
 
-    pub room-state : b + 1 ≤ length o2
-    room-state = omega (arith, e1, e2, as_long w1, as_long w2)
+    field_put : {o' o'' : Output} → Before (f ∷ fs) o' → Added o' (lowest f.width (f.of r)) o'' → Before fs o''
+    field_put w v = onward (encode_fields (f ∷ fs) r) cons w v
 
-    module _ (c : ℕ) (o3 : List ℕ) (w3 : Wrote o2 b (lowest 1 r.state) c o3) where
-      e3 : c ≡ b + 1
-      e3 = place_of o2 b 1 r.state c o3 w3
+  pub room-number : Room o (lowest 2 r.number)
+  room-number = field_room _ (drop 1 layout) start
 
-      pub kind-written : KindWrote o pos r c o3
-      kind-written = record { wrote = joined (joined w1 w2) w3; four = omega (arith, e1, e2, e3) }
+  module _ (o₁ : Output) (w₁ : Added o (lowest 2 r.number) o₁) where
+    b₁ : Before (drop 1 layout) o₁
+    b₁ = field_put _ (drop 1 layout) start w₁
 
-      pub kind_as_long : length o3 ≡ length o
-      kind_as_long = as_long (joined (joined w1 w2) w3)
+    pub room-kind : Room o₁ (lowest 1 r.kind)
+    room-kind = field_room _ (drop 2 layout) b₁
 
--- and the other three
-module _ (r : Record) (o : List ℕ) (pos : ℕ) (h : pos + record_bytes ≤ length o) (c : ℕ) (o3 : List ℕ) (w3 : KindWrote o pos r c o3) where
-  pub room_declared : c + 4 ≤ length o3
-  room_declared = omega (arith, w3.four, as_long w3.wrote)
+    module _ (o₂ : Output) (w₂ : Added o₁ (lowest 1 r.kind) o₂) where
+      b₂ : Before (drop 2 layout) o₂
+      b₂ = field_put _ (drop 2 layout) b₁ w₂
 
-  module _ (d : ℕ) (o4 : List ℕ) (w4 : Wrote o3 c (lowest 4 r.declared) d o4) where
-    e4 : d ≡ c + 4
-    e4 = place_of o3 c 4 r.declared d o4 w4
+      pub room-state : Room o₂ (lowest 1 r.state)
+      room-state = field_room _ (drop 3 layout) b₂
 
-    pub room_received : d + 4 ≤ length o4
-    room_received = omega (arith, w3.four, e4, as_long w3.wrote, as_long w4)
+      module _ (o₃ : Output) (w₃ : Added o₂ (lowest 1 r.state) o₃) where
+        b₃ : Before (drop 3 layout) o₃
+        b₃ = field_put _ (drop 3 layout) b₂ w₃
 
-    module _ (e : ℕ) (o5 : List ℕ) (w5 : Wrote o4 d (lowest 4 r.received) e o5) where
-      e5 : e ≡ d + 4
-      e5 = place_of o4 d 4 r.received e o5 w5
+        pub room-declared : Room o₃ (lowest 4 r.declared)
+        room-declared = field_room _ (drop 4 layout) b₃
 
-      pub room-due : e + 4 ≤ length o5
-      room-due = omega (arith, w3.four, e4, e5, as_long w3.wrote, as_long w4, as_long w5)
+        module _ (o₄ : Output) (w₄ : Added o₃ (lowest 4 r.declared) o₄) where
+          b₄ : Before (drop 4 layout) o₄
+          b₄ = field_put _ (drop 4 layout) b₃ w₄
 
-      pub record_written : (f : ℕ) (o6 : List ℕ) → Wrote o5 e (lowest 4 r.due) f o6 → Wrote o pos (encode_record r) f o6
-      unfolding encode_record encode_fields lowest
-      record_written f o6 w6 = joined (joined (joined w3.wrote w4) w5) w6
+          pub room-received : Room o₄ (lowest 4 r.received)
+          room-received = field_room _ (drop 5 layout) b₄
 
-      pub record_as_long : (f : ℕ) (o6 : List ℕ) → Wrote o5 e (lowest 4 r.due) f o6 → length o6 ≡ length o
-      record_as_long f o6 w6 = as_long (record_written f o6 w6)
+          module _ (o₅ : Output) (w₅ : Added o₄ (lowest 4 r.received) o₅) where
+            b₅ : Before (drop 5 layout) o₅
+            b₅ = field_put _ (drop 5 layout) b₄ w₅
+
+            pub room-due : Room o₅ (lowest 4 r.due)
+            room-due = field_room _ (drop 6 layout) b₅
+
+            pub record_written : (o₆ : Output) → Added o₅ (lowest 4 r.due) o₆ → Added o (encode_record r) o₆
+            unfolding encode_fields
+            record_written o₆ w₆ = ended refl (field_put (bytes 4 (λ x. x.due)) (drop 6 layout) b₅ w₆)
 
 -- the records, one after the other: those before i are written
-pub record Encoding (d : Desk) (o : List ℕ) (i p : ℕ) (now : List ℕ) : Type 0 where
+pub record Encoding (d : Desk) (o : Output) (i : ℕ) (o' : Output) : Type 0 where
   pub within : i ≤ desk_most
-  pub writing : Writing o 0 (encode_records d.records) p now (encode_records (drop i d.records))
+  pub adding : Adding o (encode_records d.records) o' (encode_records (drop i d.records))
 
 records_cons : (r : Record) (rs : List Record) → encode_records (r ∷ rs) ≡ encode_record r ++ encode_records rs
 unfolding encode_records
@@ -91,50 +101,36 @@ records_nil = refl
 pub encode-not : (d : Desk) (o : List ℕ) → (length o ≡ desk_bytes → ⊥) → Encoded d o false o
 encode-not d o z = record { good = sym (ne_eqb (length o) desk_bytes z); left = refl }
 
-module _ (d : Desk) (o : List ℕ) (eight : length d.records ≡ desk_most) (l : length o ≡ desk_bytes) where
+module _ (d : Desk) (o : Output) (eight : length d.records ≡ desk_most) (l : length o.buf.now ≡ desk_bytes) (z : o.pos ≡ 0) where
   whole : length (encode_records d.records) ≡ desk_bytes
   whole = records_long d.records ∙ ap (λ (n : ℕ). n * record_bytes) eight
 
-  pub encode-start : Encoding d o 0 0 o
-  encode-start = record { within = omega arith; writing = begun o 0 (encode_records d.records) }
+  pub encode-start : Encoding d o 0 o
+  encode-start = record { within = omega arith; adding = begun o (encode_records d.records) }
 
-  module _ (i p : ℕ) (now : List ℕ) (w : Encoding d o i p now) where
-    rest : length (encode_records (drop i d.records)) ≡ length (drop i d.records) * record_bytes
-    rest = records_long (drop i d.records)
+  module _ (i : ℕ) (o' : Output) (w : Encoding d o i o') where
+    module _ (h : i < desk_most) where
+      this : encode_records (drop i d.records) ≡ encode_record (get_or d.records i empty) ++ encode_records (drop (suc i) d.records)
+      this = ap encode_records (drop-cons d.records i empty (omega (arith, eight))) ∙ records_cons (get_or d.records i empty) (drop (suc i) d.records)
 
-    fits : p + length (encode_records (drop i d.records)) ≤ length now
-    fits = room (omega (arith, whole, l)) w.writing
+      pub encode-room : Room o' (encode_record (get_or d.records i empty))
+      encode-room = room-first o' (encode_record (get_or d.records i empty)) (encode_records (drop (suc i) d.records)) (rw this at (room (omega (arith, whole, l, z)) w.adding))
 
-    pub encode-room : i < desk_most → p + record_bytes ≤ length now
-    encode-room h = omega (arith, rest, fits, length-drop i d.records, eight)
+      pub encode-more : (o'' : Output) → Added o' (encode_record (get_or d.records i empty)) o'' → Encoding d o (i + 1) o''
+      encode-more o'' v = record { within = omega arith; adding = onward (encode_records (drop i d.records)) (this ∙ rw (add-one i)) w.adding v }
 
-    pub encode-more : i < desk_most → (q : ℕ) (now' : List ℕ) → Wrote now p (encode_record (get_or d.records i empty)) q now' → Encoding d o (i + 1) q now'
-    encode-more h q now' v =
-        let k : i < length d.records = omega (arith, eight) in
-        record {
-          within = omega arith;
-          writing = onward (encode_records (drop i d.records))
-              (ap encode_records (drop-cons d.records i empty k) ∙ records_cons (get_or d.records i empty) (drop (suc i) d.records) ∙ rw (add-one i))
-              w.writing v;
-        }
-
-    pub encode-long : length now ≡ length o
-    encode-long = as_long w.writing.there
-
-    pub encode-done : desk_most ≤ i → Encoded d o true now
-    encode-done h =
+    pub encode-done : desk_most ≤ i → (now : List ℕ) → now ≡ o'.buf.now → Encoded d o.buf.now true now
+    encode-done h now e =
         let k : length d.records ≤ i = omega (arith, eight) in
-        let m : length o ≤ length (encode_records d.records) = omega (arith, whole, l) in
-        let v = ended (ap encode_records (drop_of_length-le d.records k) ∙ records_nil) w.writing in
+        let m : length o.buf.now ≤ length (encode_records d.records) = omega (arith, whole, l) in
+        let v = given_back (ended (ap encode_records (drop_of_length-le d.records k) ∙ records_nil) w.adding) e in
         record {
-          good = sym (eq-eqb (length o) desk_bytes l);
-          left = front (omega (arith, whole, l)) v
-              ∙ ap (λ (x : List ℕ). encode_records d.records ++ x) (drop_of_length-le o m)
+          good = sym (eq-eqb (length o.buf.now) desk_bytes l);
+          left = front (omega (arith, whole, l)) (rw z at v)
+              ∙ ap (λ (x : List ℕ). encode_records d.records ++ x) (drop_of_length-le o.buf.now m)
               ∙ append-nil (encode_records d.records);
         }
 
-pub ruleset puts_kind = (room-kind, room-state, kind-written, kind_as_long)
+pub ruleset puts = (room-number, room-kind, room-state, room-declared, room-received, room-due, record_written)
 
-pub ruleset puts = (room_declared, room_received, room-due, record_written, record_as_long)
-
-pub ruleset encodes = (encode-start, encode-room, encode-more, encode-long, encode-done)
+pub ruleset encodes = (encode-start, encode-room, encode-more, encode-done)

@@ -4,8 +4,7 @@
 --   decode bs       the desk that they spell; bytes of another length spell none
 --   Narrow r        each number of a record fits its field
 -- "Multi-byte numbers are little-endian."
-use Rattle.std.specs.Prelude.{ℕ, zero, suc, ◌+◌, ◌*◌, ◌^◌, ◌<◌, List, [], ◌∷◌, ◌++◌, map, length, take, drop, get_or, eqb}
-use Rattle.std.proofs.Math.Option.{Option, none, some}
+use Rattle.std.specs.Prelude.{ℕ, zero, suc, ◌+◌, ◌*◌, ◌^◌, ◌<◌, List, [], ◌∷◌, ◌++◌, map, length, take, drop, get_or, eqb, Option, None, Some}
 use Rattle.paper.specs.Checks.{choose}
 use Rattle.paper.specs.Limits.{desk_most}
 use Rattle.numbers.specs.Bytes.{little, lowest}
@@ -83,8 +82,8 @@ encode d = encode_records d.records
 unfoldable pub decode : List ℕ → Option Desk
 decode bs =
     choose (eqb (length bs) desk_bytes)
-    (λ _. some (record { records = decode_records desk_most bs }))
-    (λ _. none)
+    (λ _. Some (record { records = decode_records desk_most bs }))
+    (λ _. None)
 
 -- each number fits its field
 abbrev pub Fit : List Field → Record → Type 0

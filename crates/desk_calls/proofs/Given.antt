@@ -5,7 +5,7 @@ use Prim.Native.Nat.{ℕ}
 use mathlib.Core.Path.{◌≡◌, sym, ap, ◌∙◌}
 use mathlib.Core.Logic.{◌↔◌}
 use mathlib.Core.List.{List}
-use mathlib.Core.Option.{Option, some}
+use Rattle.std.specs.Prelude.{Option, Some}
 use lib.ListN.{length}
 use Rattle.paper.specs.Limits.{desk_most}
 use Rattle.paper.specs.Refusals.{accepted}
@@ -19,7 +19,7 @@ use Rattle.desk_bytes.specs.Bytes.{decode}
 use Rattle.desk_bytes.proofs.Codec.{decode-some, records_counted}
 use Rattle.desk_calls.specs.Served.{served_by, served, listed_by, served_list}
 
-module _ (bs : List ℕ) (d : Desk) (e : decode bs ≡ some d) where
+module _ (bs : List ℕ) (d : Desk) (e : decode bs ≡ Some d) where
   eight : length d.records ≡ desk_most
   eight = ap (λ (x : Desk). length x.records) (sym (decode-some bs d e).1) ∙ records_counted desk_most bs
 

@@ -5,7 +5,7 @@ use Prim.Native.Nat.{ℕ}
 use mathlib.Core.Path.{◌≡◌, refl, sym, ap, ◌∙◌}
 use mathlib.Core.Bool.{false, true≢false}
 use mathlib.Core.List.{List, []}
-use mathlib.Core.Option.{Option, none, some}
+use Rattle.std.specs.Prelude.{Option, None, Some}
 use lib.ListN.{length}
 use lib.Dec.{eqb}
 use borrow.Author.Tests.{ne_eqb, eqb-false}
@@ -43,8 +43,8 @@ pub make-stays : (c : Call) (k : Kept) → (number_in (make c k).answer ≡ acce
 make-stays c k z = makes-stays c.asked c.named k z
 
 refused_by : (c : Call) (bs st : List ℕ) (o : Option Desk) → ((served_by c bs st o).number ≡ accepted → ⊥) → Unchanged (served_by c bs st o) bs st
-refused_by c bs st none z = record { desk = refl; store = refl; values = refl }
-refused_by c bs st (some d) z =
+refused_by c bs st None z = record { desk = refl; store = refl; values = refl }
+refused_by c bs st (Some d) z =
     record { desk = rw (ne_eqb _ _ z); store = ap (λ (k : Kept). k.store) (make-stays c (kept d st) z); values = rw (ne_eqb _ _ z) }
 
 pub served-refused : (c : Call) (bs st : List ℕ) → ((served c bs st).number ≡ accepted → ⊥) → Unchanged (served c bs st) bs st
@@ -71,16 +71,16 @@ refusal-unread to_kill bs k = refl
 refusal-unread to_close bs k = refl
 refusal-unread to_tell bs k = refl
 
-pub served_unsound : (c : Call) (bs st : List ℕ) (d : Desk) → decode bs ≡ some d → sound d ≡ false → served c bs st ≡ unread bs st
+pub served_unsound : (c : Call) (bs st : List ℕ) (d : Desk) → decode bs ≡ Some d → sound d ≡ false → served c bs st ≡ unread bs st
 unfolding served
 served_unsound c bs st d h s = ap (served_by c bs st) h ∙ ap (answered bs) (unsound c (kept d st) s) ∙ refusal-unread c.asked bs (kept d st)
 
-pub list_unsound : (bs : List ℕ) (d : Desk) → decode bs ≡ some d → sound d ≡ false → served_list bs ≡ unread bs []
+pub list_unsound : (bs : List ℕ) (d : Desk) → decode bs ≡ Some d → sound d ≡ false → served_list bs ≡ unread bs []
 unfolding served_list
 list_unsound bs d h s = ap (listed_by bs) h ∙ rw (lists_unsound d s)
 
 -- a call over bytes that spell a desk comes to what the call on the desk comes to
-pub served-fine : (c : Call) (bs st : List ℕ) (d : Desk) → decode bs ≡ some d → Fine d → NarrowCall c → AsMade (served c bs st) (make c (kept d st))
+pub served-fine : (c : Call) (bs st : List ℕ) (d : Desk) → decode bs ≡ Some d → Fine d → NarrowCall c → AsMade (served c bs st) (make c (kept d st))
 unfolding served
 served-fine c bs st d e f h =
     let g = make-fine c (kept d st) h f in
@@ -91,14 +91,14 @@ served-fine c bs st d e f h =
       desk =
           split (eqb (number_in (make c (kept d st)).answer) accepted)
           (λ t. rw t (decode-encode (make c (kept d st)).kept.desk g.eight g.narrow))
-          (λ t. rw t (e ∙ ap (λ (k : Kept). some k.desk) (sym (make-stays c (kept d st) (eqb-false _ _ t)))));
+          (λ t. rw t (e ∙ ap (λ (k : Kept). Some k.desk) (sym (make-stays c (kept d st) (eqb-false _ _ t)))));
       store = refl;
     })
 
 pub served-made : (c : Call) (d : Desk) (st : List ℕ) → NarrowCall c → Fine d → AsMade (served c (encode d) st) (make c (kept d st))
 served-made c d st h f = served-fine c (encode d) st d (decode-encode d f.eight f.narrow) f h
 
-pub served-spelt : (c : Call) (bs st : List ℕ) (d : Desk) → Bytes bs → decode bs ≡ some d → NarrowCall c → AsMade (served c bs st) (make c (kept d st))
+pub served-spelt : (c : Call) (bs st : List ℕ) (d : Desk) → Bytes bs → decode bs ≡ Some d → NarrowCall c → AsMade (served c bs st) (make c (kept d st))
 served-spelt c bs st d b e h = served-fine c bs st d e (spelt-fine bs d b e) h
 
 -- a call that is not lent the store is served with []: it answers and leaves what it does with any store, which stays
@@ -114,8 +114,8 @@ makes-apart to_close n d st z = refl
 makes-apart to_tell n d st z = refl
 
 apart_by : (c : Call) (bs st : List ℕ) (o : Option Desk) → lends_store c.asked ≡ false → served_by c bs st o ≡ with_store st (served_by c bs [] o)
-apart_by c bs st none z = refl
-apart_by c bs st (some d) z = ap (answered bs) (makes-apart c.asked c.named d st z)
+apart_by c bs st None z = refl
+apart_by c bs st (Some d) z = ap (answered bs) (makes-apart c.asked c.named d st z)
 
 pub served-apart : (c : Call) (bs st : List ℕ) → lends_store c.asked ≡ false → served c bs st ≡ with_store st (served c bs [])
 unfolding served

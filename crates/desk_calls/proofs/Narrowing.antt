@@ -4,7 +4,7 @@ use Prim.Native.Nat.{ℕ, zero, suc, ◌+◌, ◌-◌, ◌^◌, ◌<◌}
 use mathlib.Core.Path.{◌≡◌, ◌∙◌}
 use mathlib.Core.Bool.{Bool, true, false, not, cond}
 use mathlib.Core.List.{List, [], ◌∷◌}
-use mathlib.Core.Option.{some}
+use Rattle.std.specs.Prelude.{Some}
 use native.Mathlib.Omega.{arith}
 use lib.ListN.{length, get_or, set, length-set}
 use lib.Dec.{eqb, leb}
@@ -28,7 +28,7 @@ use Rattle.desk.proofs.Settling.{unless-passed, short-fed, full-fed}
 use Rattle.desk_bytes.proofs.Codec.{decode-some, records_counted, records_narrow}
 use Rattle.desk_calls.specs.Lending.{NarrowAsked, NarrowCall, Fine}
 
-pub spelt-fine : (bs : List ℕ) (d : Desk) → Bytes bs → decode bs ≡ some d → Fine d
+pub spelt-fine : (bs : List ℕ) (d : Desk) → Bytes bs → decode bs ≡ Some d → Fine d
 spelt-fine bs d b h =
     let e = decode-some bs d h in
     rw (← e.1) (record { eight = records_counted desk_most bs; narrow = records_narrow desk_most bs b e.0 })

@@ -1,43 +1,53 @@
 -- A call made on the bytes of a desk, one lemma for each return.
 -- Assumes nothing.
-use Prim.Native.Nat.{ℕ, ◌+◌, ◌<◌, ◌≤◌}
-use mathlib.Core.Path.{◌≡◌, refl, sym, ap, ◌∙◌}
-use mathlib.Core.Bool.{Bool, true, false, not, cond}
-use mathlib.Core.List.{List, []}
-use mathlib.Core.Option.{none, some}
-use native.Mathlib.Numerals.{add-one}
-use native.Mathlib.Omega.{arith}
-use lib.ListN.{length, take, get_or, set}
-use lib.Seq.{take_all}
+use Rattle.std.proofs.Common.{◌≡◌, ℕ, Bool, cond, List, [], ◌∷◌, length, Option, Some, None, Result, Ok, Err, refl, sym, ap, ◌∙◌}
 use lib.Dec.{eqb}
-use borrow.Author.Tests.{eq-eqb, ne_eqb, not-true, not-false}
-use Rattle.paper.specs.Limits.{desk_most}
-use Rattle.paper.specs.Refusals.{not_sound}
+use borrow.Author.Tests.{eq-eqb}
+use Rattle.std.specs.Option.{ok_or}
+use Rattle.paper.specs.declared.Refusal.{Refusal}
+use Rattle.paper.specs.declared.Refusal.TheVariants.{NotSound}
+use Rattle.paper.specs.Refusals.{accepted}
+use Rattle.paper.specs.Refusal.{number_of}
 use Rattle.paper.specs.Lending.{laid}
-use Rattle.paper.proofs.Lending.{laid_none, laid_three, laid_more, laid-long}
-use Rattle.desk.specs.declared.Desk.{Desk}
-use Rattle.desk.specs.declared.Moved.{Moved}
-use Rattle.desk.specs.declared.Told.{Told}
-use Rattle.desk.specs.declared.Listed.{Listed}
+use Rattle.paper.proofs.Lending.{laid_none}
+use Rattle.paper.proofs.Refusing.{refused}
 use Rattle.desk_records.specs.declared.Finish.{Finish}
-use Rattle.desk.specs.Calls.{opened, started, finished, taken, killed, closed, told, listed, Fed}
+use Rattle.desk.specs.declared.Desk.{Desk}
+use Rattle.desk.specs.declared as code
+use Rattle.desk.specs.Calls.{Moved, moved, opened, started, finished, taken, killed, closed, telling_of, told, listing_of, listed, Fed}
 use Rattle.desk_laws.specs.State.{to_open, to_feed, to_start, to_finish, to_take, to_kill, to_close, to_tell, Call, call, number, on_desk, makes, make}
-use Rattle.desk_bytes.specs.Bytes.{encode, decode}
 use Rattle.desk_laws.proofs.Putting.{kept}
+use Rattle.desk_bytes.specs.Bytes.{desk_bytes, encode, decode}
+use Rattle.desk_bytes.specs.Coded.{Encoded}
 use Rattle.desk_bytes.proofs.Codec.{decode-some}
-use Rattle.desk_bytes.specs.declared.Spelt.{Spelt}
-use Rattle.desk_bytes.specs.Coded.{said, Decoded, Encoded}
-use Rattle.desk_calls.specs.Served.{unread, answered, served_by, served, served_list}
-use Rattle.desk_calls.specs.Met.{Lent, LentStore, LentRow, Written, Laying}
+use Rattle.desk_calls.specs.Served.{answered, served_by, served, served_list}
+use Rattle.desk_calls.specs.Met.{Lent, LentStore, LentRow, Written}
 
 -- keep
-pub keep-not : (bs : List ℕ) (m : Moved) → (m.number ≡ 0 → ⊥) → Written bs m m.number bs
-keep-not bs m z = record { number = refl; bytes = rw (ne_eqb m.number 0 z) }
+module _ (bs : List ℕ) (d : Desk) where
+  pub keep_not : (a : Result (Unit {0}) Refusal) (k : Refusal) → a ≡ Err k → Written bs (moved d a) (number_of k) bs
+  keep_not a k e = rw e (record { number = refl; bytes = rw (refused k) refl })
 
-pub keep-done : (bs : List ℕ) (m : Moved) → m.number ≡ 0 → (b : Bool) (bs' : List ℕ) → Encoded m.desk bs b bs' → Written bs m m.number bs'
-keep-done bs m z b bs' e = record { number = refl; bytes = rw (eq-eqb m.number 0 z) (e.left ∙ ap (λ x. cond x (encode m.desk) bs) e.good) }
+  pub keep_done : (a : Result (Unit {0}) Refusal) (x : Unit {0}) → a ≡ Ok x → (b : Bool) (bs' : List ℕ) → Encoded d bs b bs' → Written bs (moved d a) accepted bs'
+  keep_done a x e b bs' w = rw e (record { number = refl; bytes = w.left ∙ ap (λ t. cond t (encode d) bs) w.good })
 
-pub ruleset keeps = (keep-not, keep-done)
+pub ruleset keeps = (keep_not, keep_done)
+
+-- read
+module _ (bs : List ℕ) where
+  read_none : (k : Refusal) → Err k ≡ ok_or (decode bs) NotSound → (decode bs ≡ None) × (k ≡ NotSound)
+  read_none k = go (decode bs)
+    where
+      go : (o : Option Desk) → Err k ≡ ok_or o NotSound → (o ≡ None) × (k ≡ NotSound)
+      go None e = (refl, cc)
+      go (Some d) e = cc
+
+  read_some : (d : Desk) → Ok d ≡ ok_or (decode bs) NotSound → decode bs ≡ Some d
+  read_some d = go (decode bs)
+    where
+      go : (o : Option Desk) → Ok d ≡ ok_or o NotSound → o ≡ Some d
+      go None e = cc
+      go (Some x) e = cc
 
 -- what a call that moves the desk answers, where the store goes along
 pub record Makes (c : Call) (d : Desk) (st : List ℕ) (m : Moved) (st' : List ℕ) : Type 0 where
@@ -72,93 +82,61 @@ module _ (d : Desk) (n : ℕ) (m : Moved) where
   unfolding makes
   makes-feed st piece st' f = record { same = sym (rw (f.moved, f.stored)) }
 
-module _ (bs : List ℕ) (s : Spelt) (h : Decoded bs s) where
-  pub read_none : not s.good ≡ true → decode bs ≡ none
-  read_none q = h.same ∙ ap (said s) (not-true s.good q)
-
-  pub read_some : not s.good ≡ false → decode bs ≡ some s.desk
-  read_some q = h.same ∙ ap (said s) (not-false s.good q)
-
-  module _ (c : Call) (st : List ℕ) where
-    unserved : not s.good ≡ true → served c bs st ≡ unread bs st
-    unfolding served
-    unserved q = ap (served_by c bs st) (read_none q)
-
-    serves : not s.good ≡ false → served c bs st ≡ answered bs (make c (kept s.desk st))
-    unfolding served
-    serves q = ap (served_by c bs st) (read_some q)
-
-    pub feed-unread : not s.good ≡ true → LentStore (served c bs st) not_sound bs st
-    feed-unread q = rw (unserved q) (record { number = refl; desk = refl; store = refl })
-
-    module _ (q : not s.good ≡ false) (m : Moved) (st' : List ℕ) (a : Makes c s.desk st m st') (r : ℕ) (bs' : List ℕ) (k : Written bs m r bs') where
-      written : bs' ≡ cond (eqb m.number 0) (encode m.desk) bs
-      written = k.bytes ∙ rw (eq-eqb _ _ (decode-some bs s.desk (read_some q)).0)
-
-      pub feed-served : LentStore (served c bs st) r bs' st'
-      feed-served = rw (serves q, a.same) (record { number = k.number; desk = written; store = refl })
-
-module _ (bs : List ℕ) (s : Spelt) (h : Decoded bs s) (c : Call) where
-  pub call-unread : not s.good ≡ true → Lent (served c bs []) not_sound bs
-  call-unread q = let l = feed-unread bs s h c [] q in record { number = l.number; desk = l.desk }
-
-  pub call-served : not s.good ≡ false → (m : Moved) → Makes c s.desk [] m [] → (r : ℕ) (bs' : List ℕ) → Written bs m r bs' → Lent (served c bs []) r bs'
-  call-served q m a r bs' k = let l = feed-served bs s h c [] q m [] a r bs' k in record { number = l.number; desk = l.desk }
-
-pub ruleset serving = (call-unread, call-served, feed-unread, feed-served, makes-open, makes-feed, makes-start, makes-finish, makes-take, makes-kill, makes-close)
-
--- status
-module _ (bs : List ℕ) (s : Spelt) (h : Decoded bs s) (n : ℕ) (row : List ℕ) where
-  pub status-unread : not s.good ≡ true → LentRow (served (call n to_tell) bs []) row not_sound row
+-- any call, over bytes and a store
+module _ (c : Call) (bs st : List ℕ) where
+  pub feed-unread : (k : Refusal) → Err k ≡ ok_or (decode bs) NotSound → LentStore (served c bs st) (number_of k) bs st
   unfolding served
-  status-unread q = rw (read_none bs s h q) (record { number = refl; values = sym (laid_none row) })
+  feed-unread k e = let r = read_none bs k e in rw (r.0, r.1) (record { number = refl; desk = refl; store = refl })
 
-  module _ (q : not s.good ≡ false) (t : Told) (e : t ≡ told s.desk n) where
-    pub status-not : (t.number ≡ 0 → ⊥) → LentRow (served (call n to_tell) bs []) row t.number row
-    unfolding served makes
-    status-not z = rw (read_some bs s h q, ← e, ne_eqb t.number 0 z) (record { number = refl; values = sym (laid_none row) })
+  module _ (d : Desk) (e : Ok d ≡ ok_or (decode bs) NotSound) where
+    serves : served c bs st ≡ answered bs (make c (kept d st))
+    unfolding served
+    serves = ap (served_by c bs st) (read_some bs d e)
 
-    pub status-told : t.number ≡ 0 → (row1 row2 row3 : List ℕ) → row1 ≡ set row 0 t.state → row2 ≡ set row1 1 t.received → row3 ≡ set row2 2 t.due
-        → LentRow (served (call n to_tell) bs []) row t.number row3
-    unfolding served makes
-    status-told z row1 row2 row3 a b c =
-        rw (read_some bs s h q, ← e, eq-eqb t.number 0 z)
-        (record { number = refl; values = rw (c, b, a) (laid_three t.state t.received t.due row) })
+    pub feed-served : (m : Moved) (st' : List ℕ) → Makes c d st m st' → (r : ℕ) (bs' : List ℕ) → Written bs m r bs' → LentStore (served c bs st) r bs' st'
+    feed-served m st' a r bs' w =
+        let l = eq-eqb (length bs) desk_bytes (decode-some bs d (read_some bs d e)).0 in
+        let z : bs' ≡ cond (eqb m.number 0) (encode m.desk) bs = w.bytes ∙ rw l refl in
+        rw (serves, a.same) (record { number = w.number; desk = z; store = refl })
 
-pub ruleset statuses = (status-unread, status-not, status-told)
+-- any call that is not lent the store
+module _ (c : Call) (bs : List ℕ) where
+  pub call-unread : (k : Refusal) → Err k ≡ ok_or (decode bs) NotSound → Lent (served c bs []) (number_of k) bs
+  call-unread k e = let l = feed-unread c bs [] k e in record { number = l.number; desk = l.desk }
 
--- list
-module _ (bs : List ℕ) (s : Spelt) (h : Decoded bs s) (row : List ℕ) where
-  pub list-unread : not s.good ≡ true → LentRow (served_list bs) row not_sound row
+  pub call-served : (d : Desk) → Ok d ≡ ok_or (decode bs) NotSound → (m : Moved) → Makes c d [] m [] → (r : ℕ) (bs' : List ℕ) → Written bs m r bs' → Lent (served c bs []) r bs'
+  call-served d e m a r bs' w = let l = feed-served c bs [] d e m [] a r bs' w in record { number = l.number; desk = l.desk }
+
+pub ruleset serving = (feed-unread, feed-served, call-unread, call-served, makes-open, makes-feed, makes-start, makes-finish, makes-take, makes-kill, makes-close)
+
+-- status and list, of which nothing is written back
+module _ (bs row : List ℕ) where
+  module _ (n : ℕ) where
+    pub status-unread : (k : Refusal) → Err k ≡ ok_or (decode bs) NotSound → LentRow (served (call n to_tell) bs []) row (number_of k) row
+    unfolding served
+    status-unread k e = let r = read_none bs k e in rw (r.0, r.1) (record { number = refl; values = sym (laid_none row) })
+
+    module _ (d : Desk) (e : Ok d ≡ ok_or (decode bs) NotSound) where
+      pub status-refused : (k : Refusal) → telling_of (Err k) ≡ told d n → LentRow (served (call n to_tell) bs []) row (number_of k) row
+      unfolding served makes
+      status-refused k f = rw (read_some bs d e, ← f, refused k) (record { number = refl; values = sym (laid_none row) })
+
+      pub status-done : (t : code.Told.Told) → telling_of (Ok t) ≡ told d n → (now : List ℕ) → now ≡ laid (t.state ∷ t.received ∷ t.due ∷ []) row
+          → LentRow (served (call n to_tell) bs []) row accepted now
+      unfolding served makes
+      status-done t f now g = rw (read_some bs d e, ← f) (record { number = refl; values = g })
+
+  pub list-unread : (k : Refusal) → Err k ≡ ok_or (decode bs) NotSound → LentRow (served_list bs) row (number_of k) row
   unfolding served_list
-  list-unread q = rw (read_none bs s h q) (record { number = refl; values = sym (laid_none row) })
+  list-unread k e = let r = read_none bs k e in rw (r.0, r.1) (record { number = refl; values = sym (laid_none row) })
 
-  module _ (q : not s.good ≡ false) (l : Listed) (e : l ≡ listed s.desk) where
-    pub list-not : (l.number ≡ 0 → ⊥) → LentRow (served_list bs) row l.number row
+  module _ (d : Desk) (e : Ok d ≡ ok_or (decode bs) NotSound) where
+    pub list-refused : (k : Refusal) → listing_of (Err k) ≡ listed d → LentRow (served_list bs) row (number_of k) row
     unfolding served_list
-    list-not z = rw (read_some bs s h q, ← e, ne_eqb l.number 0 z) (record { number = refl; values = sym (laid_none row) })
+    list-refused k f = rw (read_some bs d e, ← f, refused k) (record { number = refl; values = sym (laid_none row) })
 
-    module _ (eight : length l.operations ≡ desk_most) where
-      pub list-start : Laying l.operations row 0 row
-      list-start = record { within = omega arith; done = sym (laid_none row) }
+    pub list-done : (ns : List ℕ) → listing_of (Ok ns) ≡ listed d → (now : List ℕ) → now ≡ laid ns row → LentRow (served_list bs) row accepted now
+    unfolding served_list
+    list-done ns f now g = rw (read_some bs d e, ← f) (record { number = refl; values = g })
 
-      module _ (i : ℕ) (now : List ℕ) (w : Laying l.operations row i now) where
-        pub list-more : i < desk_most → (now' : List ℕ) → now' ≡ set now i (get_or l.operations i 0) → Laying l.operations row (i + 1) now'
-        list-more g now' f =
-            record {
-              within = omega arith;
-              done = f ∙ ap (λ (x : List ℕ). set x i (get_or l.operations i 0)) w.done
-                  ∙ laid_more l.operations row i (omega (arith, eight)) ∙ rw (add-one i);
-            }
-
-        pub list-long : length now ≡ length row
-        list-long = ap length w.done ∙ laid-long (take i l.operations) row
-
-        pub list_done : l.number ≡ 0 → desk_most ≤ i → LentRow (served_list bs) row l.number now
-        unfolding served_list
-        list_done z g =
-            let k : length l.operations ≤ i = omega (arith, eight) in
-            rw (read_some bs s h q, ← e, eq-eqb l.number 0 z)
-            (record { number = refl; values = w.done ∙ ap (λ (x : List ℕ). laid x row) (take_all i l.operations k) })
-
-pub ruleset lists = (list-unread, list-not, list-start, list-more, list-long, list_done)
+pub ruleset telling = (status-unread, status-refused, status-done, list-unread, list-refused, list-done)

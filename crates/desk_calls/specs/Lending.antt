@@ -6,8 +6,7 @@
 --   lends_store a         the call is lent the store; with_store st s: s, with another store
 --   shown n bs st        what the desk that the bytes spell, with the store, shows of a number
 --   EitherServed f g     two calls over the same bytes and store, made in either order
-use Rattle.std.specs.Prelude.{ℕ, ◌^◌, ◌<◌, ◌≡◌, Bool, true, false, List, [], length}
-use Rattle.std.proofs.Math.Option.{Option, none, some}
+use Rattle.std.specs.Prelude.{ℕ, ◌^◌, ◌<◌, ◌≡◌, Bool, true, false, List, [], length, Option, None, Some}
 use Rattle.paper.specs.Limits.{desk_most}
 use Rattle.desk.specs.declared.Desk.{Desk}
 use Rattle.desk_records.specs.declared.Finish.TheVariants.{Failed, Good}
@@ -44,7 +43,7 @@ pub record Fine (d : Desk) : Type 0 where
 pub record AsMade (s : Served) (x : Done) : Type 0 where
   pub number : s.number ≡ number_in x.answer
   pub values : s.values ≡ told_by x.answer
-  pub desk : decode s.desk ≡ some x.kept.desk
+  pub desk : decode s.desk ≡ Some x.kept.desk
   pub store : s.store ≡ x.kept.store
 
 -- "Nothing else changes the store": feed alone is lent it
@@ -62,8 +61,8 @@ abbrev pub with_store : List ℕ → Served → Served
 with_store st s = record { number = s.number; desk = s.desk; store = st; values = s.values }
 
 abbrev pub shown_by : ℕ → List ℕ → Option Desk → Option Seen
-shown_by n st none = none
-shown_by n st (some d) = some (see n (record { desk = d; store = st }))
+shown_by n st None = None
+shown_by n st (Some d) = Some (see n (record { desk = d; store = st }))
 
 abbrev pub shown : ℕ → List ℕ → List ℕ → Option Seen
 shown n bs st = shown_by n st (decode bs)

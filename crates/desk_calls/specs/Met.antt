@@ -3,12 +3,10 @@
 --   LentStore s r bs' st'   so is the store
 --   LentRow s row r row'    the number is that of s, and its values are laid into the row
 --   Written bs m r bs'      the bytes after a call that answered m
---   Laying values row i now how far list's loop has come
-use Rattle.std.specs.Prelude.{ℕ, ◌≤◌, ◌≡◌, cond, List, length, take, eqb}
-use Rattle.paper.specs.Limits.{desk_most}
+use Rattle.std.specs.Prelude.{ℕ, ◌≡◌, cond, List, length, eqb}
 use Rattle.paper.specs.Refusals.{accepted}
 use Rattle.paper.specs.Lending.{laid}
-use Rattle.desk.specs.declared.Moved.{Moved}
+use Rattle.desk.specs.Calls.{Moved}
 use Rattle.desk_bytes.specs.Bytes.{desk_bytes, encode}
 use Rattle.desk_calls.specs.Served.{Served}
 
@@ -29,7 +27,3 @@ pub record LentRow (s : Served) (row : List ℕ) (r : ℕ) (row' : List ℕ) : T
 pub record Written (bs : List ℕ) (m : Moved) (r : ℕ) (bs' : List ℕ) : Type 0 where
   pub number : r ≡ m.number
   pub bytes : bs' ≡ cond (eqb m.number accepted) (cond (eqb (length bs) desk_bytes) (encode m.desk) bs) bs
-
-pub record Laying (values row : List ℕ) (i : ℕ) (now : List ℕ) : Type 0 where
-  pub within : i ≤ desk_most
-  pub done : now ≡ laid (take i values) row

@@ -2,8 +2,7 @@
 --   Served               what is there after it: its number, the desk's bytes, the store, and the values that it tells
 --   served c bs store    the call c, made on the desk that the bytes bs spell, with the store; a call that is not lent the store is made with []
 --   served_list bs        list, made on that desk
-use Rattle.std.specs.Prelude.{ℕ, cond, List, [], ◌∷◌, eqb}
-use Rattle.std.proofs.Math.Option.{Option, none, some}
+use Rattle.std.specs.Prelude.{ℕ, cond, List, [], ◌∷◌, eqb, Option, None, Some}
 use Rattle.paper.specs.Refusals.{accepted, not_sound}
 use Rattle.desk.specs.declared.Desk.{Desk}
 use Rattle.desk.specs.Calls.{listed}
@@ -39,15 +38,15 @@ answered bs x = record {
 }
 
 abbrev pub served_by : Call → List ℕ → List ℕ → Option Desk → Served
-served_by c bs store none = unread bs store
-served_by c bs store (some d) = answered bs (make c (record { desk = d; store = store }))
+served_by c bs store None = unread bs store
+served_by c bs store (Some d) = answered bs (make c (record { desk = d; store = store }))
 
 unfoldable pub served : Call → List ℕ → List ℕ → Served
 served c bs store = served_by c bs store (decode bs)
 
 abbrev pub listed_by : List ℕ → Option Desk → Served
-listed_by bs none = unread bs []
-listed_by bs (some d) = record {
+listed_by bs None = unread bs []
+listed_by bs (Some d) = record {
   number = (listed d).number;
   desk = bs;
   store = [];

@@ -12,7 +12,7 @@ use Rattle.swapping.proofs.Swapping as Swapping
 use Rattle.swapping.proofs.Mixing as Mixing
 use Rattle.desk_records.specs.Record.{create, triggered, running}
 use Rattle.desk.specs.declared.Desk.{Desk}
-use Rattle.desk.specs.declared.Moved.{Moved}
+use Rattle.desk.specs.Calls.{Moved}
 use Rattle.desk.specs.Desk.{put, fresh_desk}
 use Rattle.desk.proofs.Answered.{start-moves}
 use Rattle.desk_laws.specs.View.{Kept}

@@ -12,14 +12,14 @@ use Rattle.paper.specs.Limits.{desk_most}
 use Rattle.paper.specs.Refusals.{not_sound}
 use Rattle.desk_records.specs.declared.Record.{Record}
 use Rattle.desk.specs.declared.Desk.{Desk}
-use Rattle.desk.specs.declared.Listed.{Listed}
+use Rattle.desk.specs.Calls.{Listed}
 use Rattle.desk.specs.Desk.{place, sound, sound_records}
 use Rattle.paper.specs.Tests.{among}
 use Rattle.desk.specs.Listing.{numbers, insert, rising, then_zeros, Below, Rises}
 use Rattle.desk.specs.Calls.{list_number, listed}
 use Rattle.desk_laws.specs.View.{GoodDesk, Lists}
 use Rattle.paper.proofs.Tests.{split}
-use Rattle.desk.proofs.Sifting.{length-rising, length-numbers}
+use Rattle.desk.proofs.Sorting.{length-rising, length-numbers}
 use Rattle.desk.proofs.Soundness.{sound-alone, sound-tail, alone-absent, sound_records_lem}
 
 or_swap : (a b c : Bool) → a || (b || c) ≡ b || (a || c)

@@ -4,7 +4,7 @@ use Prim.Native.Nat.{ℕ}
 use mathlib.Core.Path.{◌≡◌, sym, ◌∙◌}
 use mathlib.Core.List.{List}
 use Rattle.desk.specs.declared.Desk.{Desk}
-use Rattle.desk.specs.declared.Moved.{Moved}
+use Rattle.desk.specs.Calls.{Moved}
 use Rattle.desk.specs.Calls.{Fed}
 
 pub fed_once : (d : Desk) (store : List ℕ) (n : ℕ) (piece : List ℕ) (r r₂ : Moved) (after after₂ : List ℕ)

@@ -13,7 +13,7 @@ use lib.Dec.{eqb}
 use borrow.Author.Tests.{eq-eqb, ne_eqb, eqb-true, eqb-false, ltb-false}
 use Rattle.paper.specs.Limits.{desk_most, store_bytes}
 use Rattle.paper.specs.Refusals.{accepted, not_sound, number_zero, in_use, all_taken, no_such_number, not_allowed, open_wrong, amount_wrong}
-use Rattle.paper.specs.declared.Answer as Paper
+use Rattle.paper.specs.Refusal as Paper
 use Rattle.paper.proofs.Tests.{so_not, split}
 use Rattle.desk_records.specs.declared.Record.{Record}
 use Rattle.desk_records.specs.Record.{empty, suits}

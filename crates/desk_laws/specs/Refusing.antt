@@ -13,7 +13,7 @@ use Rattle.std.specs.Prelude.{ℕ, ◌+◌, ◌*◌, ◌<◌, ◌≡◌, true, f
 use Rattle.std.proofs.Math.Seq.{paste}
 use Rattle.paper.specs.Limits.{desk_most, declared_most, store_bytes}
 use Rattle.paper.specs.Refusals.{accepted, not_sound, number_zero, in_use, all_taken, no_such_number, not_allowed, open_wrong, amount_wrong}
-use Rattle.paper.specs.declared.Answer as Paper
+use Rattle.paper.specs.Refusal as Paper
 use Rattle.desk_records.specs.declared.Record.{Record}
 use Rattle.desk_records.specs.Record.{empty, suits}
 use Rattle.desk_records.specs.Moves.{Move, Moves, opening, feeding, starting, finishing, taking, killing, closing}

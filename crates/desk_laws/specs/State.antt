@@ -11,8 +11,8 @@ use Rattle.paper.specs.Limits.{desk_most, store_bytes}
 use Rattle.swapping.specs.Calls.{Calls}
 use Rattle.desk_records.specs.declared.Record.{Record}
 use Rattle.desk_records.specs.declared.Finish.{Finish}
-use Rattle.desk.specs.declared.Moved.{Moved}
-use Rattle.desk.specs.declared.Told.{Told}
+use Rattle.desk.specs.Calls.{Moved}
+use Rattle.desk.specs.Calls.{Told}
 use Rattle.desk.specs.Desk.{sound}
 use Rattle.desk.specs.Calls.{opened, fed, fed_store, started, finished, taken, killed, closed, told}
 use Rattle.desk_laws.specs.View.{Kept, Seen, see}

@@ -8,7 +8,7 @@ use Rattle.paper.specs.Limits.{desk_most, declared_most}
 use Rattle.paper.specs.Refusals.{accepted}
 use Rattle.desk_records.specs.declared.Record.{Record}
 use Rattle.desk.specs.declared.Desk.{Desk}
-use Rattle.desk.specs.declared.Listed.{Listed}
+use Rattle.desk.specs.Calls.{Listed}
 use Rattle.desk.specs.Desk.{place, sound, has, record_of}
 use Rattle.paper.specs.Tests.{among}
 use Rattle.desk.specs.Listing.{then_zeros, Rises}

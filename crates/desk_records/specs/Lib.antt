@@ -1,2 +1,3 @@
 pub mod Record
 pub mod Moves
+pub mod Met

@@ -1,6 +1,7 @@
 -- Document 01, "The desk's states": one record.
 --   head .. action            the seven types
 --   inactive .. abandoned     the eight states
+--   kind_number, state_number  the numbers of the code's names for them
 --   empty                     the record of an empty place
 --   between a n b             n is a to b
 --   suits kind declared       an operation of this type may declare so many bytes
@@ -9,6 +10,10 @@
 use Rattle.std.specs.Prelude.{ℕ, Bool, ◌&&◌, ◌||◌, cond, ltb, leb, eqb}
 use Rattle.paper.specs.Limits.{declared_most}
 use Rattle.desk_records.specs.declared.Record.{Record}
+use Rattle.desk_records.specs.declared.Kind.{Kind}
+use Rattle.desk_records.specs.declared.Kind.TheVariants as kinds
+use Rattle.desk_records.specs.declared.State.{State}
+use Rattle.desk_records.specs.declared.State.TheVariants as states
 
 -- "Types 0 to 6: head, read, create, delete, update, replace, action."
 abbrev pub head : ℕ
@@ -56,6 +61,25 @@ failed = 6
 
 abbrev pub abandoned : ℕ
 abandoned = 7
+
+abbrev pub kind_number : Kind → ℕ
+kind_number kinds.Head = head
+kind_number kinds.Read = read
+kind_number kinds.Create = create
+kind_number kinds.Delete = delete
+kind_number kinds.Update = update
+kind_number kinds.Replace = replace
+kind_number kinds.Action = action
+
+abbrev pub state_number : State → ℕ
+state_number states.Inactive = inactive
+state_number states.NeedsInput = needs_input
+state_number states.Triggered = triggered
+state_number states.Running = running
+state_number states.HaveResults = have_results
+state_number states.Completed = completed
+state_number states.Failed = failed
+state_number states.Abandoned = abandoned
 
 -- "empty places are all 0"
 abbrev pub empty : Record

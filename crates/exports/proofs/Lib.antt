@@ -1,3 +1,2 @@
 pub mod Telling
-pub mod Checking
 pub mod Outcomes

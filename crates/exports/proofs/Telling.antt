@@ -1,18 +1,13 @@
 -- An answer told in a lent row, and an outcome handed to a caller in C.
 -- Assumes nothing.
-use Prim.Native.Nat.{ℕ}
-use mathlib.Core.Path.{◌≡◌, refl, ap, ◌∙◌}
-use mathlib.Core.List.{List}
-use lib.ListN.{set}
-use Rattle.paper.specs.declared.Answer.{Answer}
+use Rattle.std.proofs.Common.{◌≡◌, ℕ, List, ap, ◌∙◌}
+use Rattle.paper.specs.Refusal.{Answer}
 use Rattle.paper.specs.Lending.{laid}
-use Rattle.paper.proofs.Lending.{laid_three}
 use Rattle.payload.specs.Reading.{Outcome}
 use Rattle.payload.specs.Answered.{Answered}
+use Rattle.desk_calls.specs.Served.{Served}
+use Rattle.desk_calls.specs.Met.{Lent, LentStore, LentRow}
 use Rattle.exports.specs.Exported.{values, Exported, Told}
-
-pub three_told : (a : Answer) (row row1 row2 row3 : List ℕ) → row1 ≡ set row 0 a.place → row2 ≡ set row1 1 a.count → row3 ≡ set row2 2 a.length → Told a row a.number row3
-three_told a row row1 row2 row3 e f g = record { number = refl; values = rw (g, f, e) (laid_three a.place a.count a.length row) }
 
 -- any outcome, the reader's or the writer's
 pub handed : (o : Outcome) (old : List ℕ) (a : Answer) (new : List ℕ) → Answered o old a new → (row : List ℕ) (r : ℕ) (row' : List ℕ) → Told a row r row' → Exported o old row r new row'
@@ -23,4 +18,13 @@ handed o old a new h row r row' t =
       contents = h.contents;
     }
 
-pub ruleset telling = (three_told, handed)
+-- any call of the desk, by the number that it says
+module _ (s : Served) (k r : ℕ) (e : k ≡ r) where
+  pub handed_lent : (bs : List ℕ) → Lent s r bs → Lent s k bs
+  handed_lent bs l = record { number = e ∙ l.number; desk = l.desk }
+
+  pub handed_store : (bs st : List ℕ) → LentStore s r bs st → LentStore s k bs st
+  handed_store bs st l = record { number = e ∙ l.number; desk = l.desk; store = l.store }
+
+  pub handed_row : (row row' : List ℕ) → LentRow s row r row' → LentRow s row k row'
+  handed_row row row' l = record { number = e ∙ l.number; values = l.values }

@@ -4,7 +4,7 @@
 --   version      of the library, 65,536 · major + 256 · minor + patch
 --   Exported     what the reader's and the writer's entry answer and leave
 use Rattle.std.specs.Prelude.{ℕ, ◌+◌, ◌*◌, ◌≡◌, List, [], ◌∷◌, cond}
-use Rattle.paper.specs.declared.Answer.{Answer}
+use Rattle.paper.specs.Refusal.{Answer}
 use Rattle.paper.specs.Lending.{laid}
 use Rattle.paper.specs.Refusals.{accepted, dictionary_wrong}
 use Rattle.dictionary.specs.Accepts.{accepts}

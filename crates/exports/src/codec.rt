@@ -1,27 +1,28 @@
 // Reader and writer for callers in C. Each answers the number; what it leaves in each lent buffer stands in specs/Exported.antt.
-ghost use Rattle.std.specs.Prelude.{◌≡◌, length, set};
+ghost use Rattle.std.specs.Prelude.{◌≡◌, length};
+ghost use Rattle.paper.specs.Refusal.{told as as_told};
 ghost use Rattle.payload.specs.Reading.{reads};
 ghost use Rattle.text.specs.Writing.{writes};
 ghost use Rattle.exports.specs.Exported.{Exported, Told};
 
-use paper::Answer;
+use crate::ACCEPTED;
+use paper::lent::lay;
+use paper::{Done, Refused};
 
-// Lays one value into a row, where the row has that place.
-fn lay(row: &mut [usize], at: usize, value: usize)
-    ensures { row.new ≡ set row.old at value }
+// Lays place, count and length into the row: a refusal's count and length are 0, acceptance is place 0.
+fn tell(answer: Result<Done, Refused>, row: &mut [usize]) -> u32
+    ensures { Told (as_told answer) row.old result row.new }
 {
-    if at < row.len() {
-        row[at] = value;
+    match answer {
+        Ok(done) => {
+            lay(row, &[0, done.count, done.length]);
+            ACCEPTED
+        }
+        Err(k) => {
+            lay(row, &[k.place, 0, 0]);
+            u32::from(k.refusal.number())
+        }
     }
-}
-
-fn tell(a: Answer, told: &mut [usize]) -> u32
-    ensures { Told a told.old result told.new }
-{
-    lay(told, 0, a.place);
-    lay(told, 1, a.count);
-    lay(told, 2, a.length);
-    a.number as u32
 }
 
 // Tells place, count and length: three numbers, or as many as there is room for.
@@ -35,8 +36,7 @@ pub extern "C" fn broachvale_read(
 ) -> u32
     ensures { Exported (reads dictionary.now payload.now budget (length text.old)) text.old told.old result text.new told.new }
 {
-    let a = reader::read(dictionary, payload, budget, text);
-    tell(a, told)
+    tell(reader::read(dictionary, payload, budget, text), told)
 }
 
 #[unsafe(no_mangle)]
@@ -48,6 +48,5 @@ pub extern "C" fn broachvale_write(
 ) -> u32
     ensures { Exported (writes dictionary.now text.now (length payload.old)) payload.old told.old result payload.new told.new }
 {
-    let a = writer::write(dictionary, text, payload);
-    tell(a, told)
+    tell(writer::write(dictionary, text, payload), told)
 }

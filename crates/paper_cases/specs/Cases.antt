@@ -4,11 +4,11 @@
 use Rattle.std.specs.Prelude.{ℕ, List, [], ◌∷◌, ◌++◌, map, length}
 use Prim.Native.String.{String}
 use Rattle.paper.specs.Limits.{text_most, payload_most}
-use Rattle.paper.specs.declared.Answer.{Answer}
+use Rattle.paper.specs.Refusal.{Answer}
 use Rattle.payload.specs.Reading.{Outcome, reads, answer_of, contents_of}
 use Rattle.text.specs.Writing.{writes}
 use Rattle.desk.specs.declared.Desk.{Desk}
-use Rattle.desk.specs.declared.Moved.{Moved}
+use Rattle.desk.specs.Calls.{Moved}
 use Rattle.desk_records.specs.Record.{read}
 use Rattle.desk.specs.Desk.{fresh_desk}
 use Rattle.desk.specs.Calls.{opened, killed, closed}

@@ -2,11 +2,9 @@
 --   figure6         the 274 bytes
 --   Row, table44    a row with the columns of the table, and the table's 11 rows
 --   rows_of d        the rows that the definitions read out of a dictionary's bytes
-use Rattle.std.specs.Prelude.{ℕ, zero, suc, ◌+◌, ◌*◌, ◌/◌, ◌%◌, List, [], ◌∷◌, ◌++◌, Bool, true, false, eqb}
+use Rattle.std.specs.Prelude.{ℕ, zero, suc, ◌+◌, ◌*◌, ◌/◌, ◌%◌, List, [], ◌∷◌, ◌++◌, Bool, true, false, eqb, Option, Some, None}
 use Prim.Native.String.{String}
 use Rattle.paper.specs.Checks.{choose}
-use Rattle.dictionary.specs.declared.Child.{Child}
-use Rattle.dictionary.specs.declared.Child.TheVariants.{At, Nothing}
 use Rattle.dictionary.specs.Formats.{set_form, array_form, integer_form, enum_form, string_form, boolean_form}
 use Rattle.dictionary.specs.Rows.{entries, form, kind, nullable, number_in, child_offset, child_count, first_child, name}
 use Rattle.paper_cases.specs.Spelling.{ascii, hex}
@@ -57,12 +55,12 @@ pub record Row : Type 0 where
   pub number : ℕ
   pub format : ℕ
   pub name : List ℕ
-  pub pointer : Child
+  pub pointer : Option ℕ
   pub count : ℕ
   pub nullable : Bool
   pub flags : ℕ
 
-abbrev pub row : ℕ → ℕ → String → Child → ℕ → Bool → ℕ → Row
+abbrev pub row : ℕ → ℕ → String → Option ℕ → ℕ → Bool → ℕ → Row
 row number format name pointer count nullable flags = record {
   number = number;
   format = format;
@@ -80,22 +78,22 @@ read_only = 0b0010
 -- Sequence number, format, name, child pointer, child count; nullable, other flags. Row 5's name is given as "null (anonymous array elements)".
 unfoldable pub table44 : List Row
 table44 =
-    row 0 set_form "DummySimple" (At 1) 4 false 0
-    ∷ row 0 array_form "ChildArrayProperty" (At 5) 1 true 0
-    ∷ row 1 string_form "Id" Nothing 0 true read_only
-    ∷ row 2 boolean_form "SampleEnabledProperty" Nothing 0 true 0
-    ∷ row 3 integer_form "SampleIntegerProperty" Nothing 0 true 0
-    ∷ row 0 set_form "" (At 6) 2 false 0
-    ∷ row 0 boolean_form "AnotherBoolean" Nothing 0 true 0
-    ∷ row 1 enum_form "LinkStatus" (At 8) 3 true read_only
-    ∷ row 0 string_form "LinkDown" Nothing 0 false 0
-    ∷ row 1 string_form "LinkUp" Nothing 0 false 0
-    ∷ row 2 string_form "NoLink" Nothing 0 false 0
+    row 0 set_form "DummySimple" (Some 1) 4 false 0
+    ∷ row 0 array_form "ChildArrayProperty" (Some 5) 1 true 0
+    ∷ row 1 string_form "Id" None 0 true read_only
+    ∷ row 2 boolean_form "SampleEnabledProperty" None 0 true 0
+    ∷ row 3 integer_form "SampleIntegerProperty" None 0 true 0
+    ∷ row 0 set_form "" (Some 6) 2 false 0
+    ∷ row 0 boolean_form "AnotherBoolean" None 0 true 0
+    ∷ row 1 enum_form "LinkStatus" (Some 8) 3 true read_only
+    ∷ row 0 string_form "LinkDown" None 0 false 0
+    ∷ row 1 string_form "LinkUp" None 0 false 0
+    ∷ row 2 string_form "NoLink" None 0 false 0
     ∷ []
 
 -- "null" is offset 0
-abbrev pub pointer_of : List ℕ → ℕ → Child
-pointer_of d r = choose (eqb (child_offset d r) 0) (λ _. Nothing) (λ _. At (first_child d r))
+abbrev pub pointer_of : List ℕ → ℕ → Option ℕ
+pointer_of d r = choose (eqb (child_offset d r) 0) (λ _. None) (λ _. Some (first_child d r))
 
 abbrev pub row_of : List ℕ → ℕ → Row
 row_of d r = record {

@@ -1,18 +1,17 @@
--- `desk_bytes::encode` meets its contract. The loop keeps that the records before i are written.
+-- `desk_bytes::encode` meets its contract. The loop keeps that the records before this one are written.
 -- Assumes nothing.
-use Rattle.std.proofs.Common.{rules}
-use Rattle.desk.proofs.Scanning.{unmapped}
-use Rattle.desk_bytes.proofs.Encoding.{encodes}
+use Rattle.std.proofs.Common.{rules, refl, arith}
+use Rattle.desk_bytes.proofs.Encoding.{encodes, encode-start, encode-done}
 use Rattle.desk_bytes.proofs.encode.Goals as goal
 
-pub loop-i-init : goal.loop-i-init
-loop-i-init c = search (encodes, unmapped, rules)
+pub loop-r-init : goal.loop-r-init
+loop-r-init c = encode-start _ _ (search rules) c.if-out-ne-DESK_BYTES.false refl
 
-pub put_record-p-requires : goal.put_record-p-requires
-put_record-p-requires c = search (encodes, rules)
+pub put_record-requires : goal.put_record-requires
+put_record-requires c = search (encodes, rules)
 
-pub loop-i-preserved : goal.loop-i-preserved
-loop-i-preserved c = search (encodes, rules)
+pub loop-r-preserved : goal.loop-r-preserved
+loop-r-preserved c = search (encodes, rules)
 
 pub returns : goal.returns
-returns c = search (encodes, rules)
+returns c = encode-done c.args.d _ (search rules) c.if-out-ne-DESK_BYTES.false refl _ _ c.loop-r.invariant (omega arith) _ (search rules)

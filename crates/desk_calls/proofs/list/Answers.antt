@@ -1,20 +1,10 @@
--- `desk_calls::list` meets its contract. The loop keeps that the first i numbers are laid.
+-- `desk_calls::list` meets its contract.
 -- Assumes nothing.
-use Rattle.std.proofs.Common.{rules}
-use Rattle.desk_calls.proofs.Serving.{lists}
+use Rattle.std.proofs.lemmas.Result.{err_from_is_err_and}
+use Rattle.desk_calls.proofs.Serving.{list-unread}
 use Rattle.desk_calls.proofs.list.Goals as goal
 
-pub returns-then-not-s : goal.returns-then-not-s
-returns-then-not-s c = search (lists, rules)
-
-pub returns-then-l-ne-ACCEPTED : goal.returns-then-l-ne-ACCEPTED
-returns-then-l-ne-ACCEPTED c = search (lists, rules)
-
-pub loop-i-init : goal.loop-i-init
-loop-i-init c = search (lists, rules)
-
-pub loop-i-preserved : goal.loop-i-preserved
-loop-i-preserved c = search (lists, rules)
-
-pub returns : goal.returns
-returns c = search (lists, rules)
+pub returns-in_err-read : goal.returns-in_err-read
+returns-in_err-read c =
+    let p = err_from_is_err_and c.from_residual.result c.from_residual.ensures.1 in
+    rw (p.1, p.2) (list-unread _ _ _ c.in_err-read.ensures)

@@ -1,8 +1,0 @@
--- `desk_records::records::sound_record` meets its contract.
--- Assumes nothing.
-use Rattle.std.proofs.Common.{rules}
-use Rattle.desk_records.proofs.Ruling.{ruling}
-use Rattle.desk_records.proofs.records.sound_record.Goals as goal
-
-pub returns : goal.returns
-returns c = search (ruling, rules)
