@@ -2,153 +2,104 @@
 // answers. An error is the reader's or the writer's own.
 #![tactic(auto)]
 
-ghost use Rattle.std.specs.Prelude.{◌≡◌, ◌≤◌, length, IfOk, OnErr};
-ghost use Rattle.bench_lines.specs.Met.{Stands};
+ghost use Rattle.std.specs.Prelude.{◌≡◌, length, OnErr};
 
-use bench_lines::{BUFFER_ROOM, HEX_ROOM};
+use bench_lines::{BUFFER_ROOM, Gathered, HEX_ROOM, Line, Lines, read_case};
+use paper::{Done, Refused};
 use std::io;
 use std::io::{Read, Write};
 
-// Which way a case goes: payload to text with the number for a budget, or text to payload with the number for room.
+// Which way a case goes: payload to text with the number for a budget, or text to payload with the number for room. An enum, since it
+// decides at two places, the call and how its result is told.
 #[derive(Clone, Copy)]
 pub enum Way {
     Read,
     Write,
 }
 
-// Room for more bytes than the buffer has is cut to the buffer.
-fn answered(
-    way: Way,
-    dictionary: &[u8],
-    bytes: &[u8],
-    number: u64,
-    res: &mut [u8],
-) -> paper::Answer {
-    match way {
-        Way::Read => reader::read(dictionary, bytes, number as usize, res),
-        Way::Write => {
-            let room = bench_lines::least(number as usize, res.len());
-            let lent = &mut res[..room];
-            writer::write(dictionary, bytes, lent)
+// Room for what a case says, and for its result.
+#[derive(Drop)]
+struct Room<'a> {
+    dictionary: [u8; HEX_ROOM],
+    bytes: [u8; HEX_ROOM],
+    res: &'a mut [u8],
+}
+
+impl Room<'_> {
+    // What a well-formed line's case answers. Room for more bytes than the buffer has is cut to the buffer.
+    fn answered(&mut self, way: Way, line: &[u8]) -> Option<Result<Done, Refused>> {
+        let case = read_case(line, &mut self.dictionary, &mut self.bytes)?;
+        let dictionary = &self.dictionary[..case.dictionary];
+        let bytes = &self.bytes[..case.bytes];
+        let number = case.number as usize;
+        Some(match way {
+            Way::Read => reader::read(dictionary, bytes, number, self.res),
+            Way::Write => {
+                let room = number.min(self.res.len());
+                writer::write(dictionary, bytes, &mut self.res[..room])
+            }
+        })
+    }
+
+    // The number, and the result or, refused, the place. A text is told as it is, a payload in hex.
+    fn tell<W: Write>(
+        &self,
+        out: &mut Gathered<'_, W>,
+        way: Way,
+        answer: Result<Done, Refused>,
+    ) -> io::Result<()> {
+        match answer {
+            Ok(done) => {
+                out.add(b"0\t")?;
+                match way {
+                    Way::Read => out.add_front(self.res, done.length),
+                    Way::Write => out.add_hex(self.res, done.length),
+                }
+            }
+            Err(r) => {
+                out.add_decimal(u64::from(r.refusal.number()))?;
+                out.add(b"\t")?;
+                out.add_decimal(r.place as u64)
+            }
         }
     }
-}
 
-// A text as it is, a payload in hex.
-fn add_result<W: Write>(
-    to: &mut W,
-    way: Way,
-    out: &mut [u8],
-    pos: usize,
-    res: &[u8],
-    n: usize,
-) -> io::Result<usize>
-    requires { pos ≤ length out.old }
-    ensures { IfOk result (λ r. r ≤ length out.old) }
-{
-    match way {
-        Way::Read => bench_lines::add_front(to, out, pos, res, n),
-        Way::Write => bench_lines::add_hex(to, out, pos, res, n),
+    // An over-long line is malformed, and an empty one is passed over.
+    fn answer<W: Write>(
+        &mut self,
+        out: &mut Gathered<'_, W>,
+        way: Way,
+        line: Line<'_>,
+    ) -> io::Result<()> {
+        let line = match line {
+            Line::Whole(b"") => return Ok(()),
+            Line::Whole(line) => line,
+            Line::Long(front) => return out.add_malformed(front),
+        };
+        let Some(answer) = self.answered(way, line) else {
+            return out.add_malformed(line);
+        };
+        out.add_name(line)?;
+        self.tell(out, way, answer)?;
+        out.add(b"\n")
     }
-}
 
-// The line's name, the number, and the result or, refused, the place.
-fn add_answer<W: Write>(
-    to: &mut W,
-    way: Way,
-    out: &mut [u8],
-    pos: usize,
-    line: &[u8],
-    a: paper::Answer,
-    res: &[u8],
-) -> io::Result<usize>
-    requires { pos ≤ length out.old }
-    ensures { IfOk result (λ r. r ≤ length out.old) }
-{
-    let p = bench_lines::add_name(to, out, pos, line)?;
-    let q = bench_lines::add_decimal(to, out, p, a.number as u64)?;
-    let r = bench_lines::add(to, out, q, b"\t")?;
-    if a.number == paper::ACCEPTED {
-        return add_result(to, way, out, r, res, a.length);
-    }
-    bench_lines::add_decimal(to, out, r, a.place as u64)
-}
-
-fn answer<W: Write>(
-    to: &mut W,
-    way: Way,
-    line: &[u8],
-    dictionary: &mut [u8],
-    bytes: &mut [u8],
-    res: &mut [u8],
-    out: &mut [u8],
-    pos: usize,
-) -> io::Result<usize>
-    requires { pos ≤ length out.old }
-    ensures { IfOk result (λ r. r ≤ length out.old) }
-{
-    let c = bench_lines::read_case(line, dictionary, bytes);
-    if !c.good {
-        return bench_lines::add_malformed(to, out, pos, line);
-    }
-    let d = c.dictionary;
-    let b = c.bytes;
-    let a = answered(way, &dictionary[..d], &bytes[..b], c.number, res);
-    let p = add_answer(to, way, out, pos, line, a, res)?;
-    bench_lines::add(to, out, p, b"\n")
-}
-
-// An empty line is passed over.
-fn answer_line<W: Write>(
-    to: &mut W,
-    way: Way,
-    buf: &[u8],
-    c: bench_lines::Cursor,
-    dictionary: &mut [u8],
-    bytes: &mut [u8],
-    res: &mut [u8],
-    out: &mut [u8],
-    pos: usize,
-) -> io::Result<usize>
-    requires { Stands (length buf.now) c × (pos ≤ length out.old) }
-    ensures { IfOk result (λ r. r ≤ length out.old) }
-{
-    let from = c.from;
-    let end = c.end;
-    if c.long {
-        return bench_lines::add_malformed(to, out, pos, &buf[from..end]);
-    }
-    if from == end {
-        return Ok(pos);
-    }
-    answer(to, way, &buf[from..end], dictionary, bytes, res, out, pos)
-}
-
-// Answers every line, and says how many bytes of output are then gathered and not yet written.
-fn run<R: Read, W: Write>(
-    input: &mut R,
-    to: &mut W,
-    way: Way,
-    buf: &mut [u8],
-    dictionary: &mut [u8],
-    bytes: &mut [u8],
-    res: &mut [u8],
-    out: &mut [u8],
-) -> io::Result<usize>
-    ensures { IfOk result (λ r. r ≤ length out.old) }
-{
-    let mut c = bench_lines::start();
-    let mut pos: usize = 0;
-    let mut turns = u64::MAX;
-    while turns > 0 {
-        turns -= 1;
-        c = bench_lines::next_line(input, buf, c)?;
-        if c.ended {
-            return Ok(pos);
+    // Answers every line.
+    fn run<R: Read, W: Write>(
+        &mut self,
+        lines: &mut Lines<'_, R>,
+        out: &mut Gathered<'_, W>,
+        way: Way,
+    ) -> io::Result<()> {
+        // A bound, since input may have no end and every function ends.
+        for _ in 0..u64::MAX {
+            match lines.next_line()? {
+                Some(line) => self.answer(out, way, line)?,
+                None => break,
+            }
         }
-        pos = answer_line(to, way, buf, c, dictionary, bytes, res, out, pos)?;
+        out.send()
     }
-    Ok(pos)
 }
 
 // Answers the input's lines to the writer; the buffer has room for the longest result. After an error it still has.
@@ -162,17 +113,12 @@ pub fn run_file<R: Read, W: Write>(
 {
     let mut buf = [0u8; BUFFER_ROOM];
     let mut out = [0u8; BUFFER_ROOM];
-    let mut dictionary = [0u8; HEX_ROOM];
-    let mut bytes = [0u8; HEX_ROOM];
-    let pos = run(
-        input,
-        to,
-        way,
-        &mut buf,
-        &mut dictionary,
-        &mut bytes,
+    let mut room = Room {
+        dictionary: [0; HEX_ROOM],
+        bytes: [0; HEX_ROOM],
         res,
-        &mut out,
-    )?;
-    bench_lines::send(to, &out, pos)
+    };
+    let mut lines = Lines::new(input, &mut buf);
+    let mut gathered = Gathered::new(to, &mut out);
+    room.run(&mut lines, &mut gathered, way)
 }

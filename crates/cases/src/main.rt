@@ -9,6 +9,5 @@ use std::io;
 // "the output buffer has 65,535 bytes"
 fn main(rt: HostRuntime) -> io::Result<()> {
     let mut text = [0u8; TEXT_MOST];
-    let way = Way::Read;
-    bench_cases::run_file(&mut rt.stdin(), &mut rt.stdout(), way, &mut text)
+    bench_cases::run_file(&mut rt.stdin(), &mut rt.stdout(), Way::Read, &mut text)
 }

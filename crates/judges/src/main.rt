@@ -13,51 +13,39 @@ const INPUT_ROOM: usize = 262144;
 
 const BYTES_ROOM: usize = 131072;
 
+// The bench's spaces, which need not be those of a text.
 fn is_space(c: u8) -> bool {
-    match c {
-        b' ' | b'\n' | b'\r' | b'\t' => true,
-        _ => false,
-    }
+    matches!(c, b' ' | b'\n' | b'\r' | b'\t')
 }
 
-// Moves those of the first `have` bytes together that are neither space nor line end, and answers how many they are.
+// In place, so that no second buffer is needed: moves those of the first `have` bytes together that are neither space nor line end, and answers how many they are.
 fn squeeze(s: &mut [u8], have: usize) -> usize
     requires { have ≤ length s.old }
     ensures { result ≤ length s.old }
 {
-    let mut n: usize = 0;
-    let mut i: usize = 0;
-    while i < have {
+    let mut n = 0;
+    for i in 0..have {
         let c = s[i];
-        s[n] = c;
-        n += bench_lines::one_where(!is_space(c));
-        i += 1;
+        if !is_space(c) {
+            s[n] = c;
+            n += 1;
+        }
     }
     n
 }
 
 fn say<W: Write>(to: &mut W, digits: &[u8], bytes: &mut [u8]) -> io::Result<()> {
-    let b = bench_lines::unhex(digits, bytes);
-    if !b.good {
-        return to.write_all(b"?\n");
-    }
-    let n = b.count;
-    if checker::accepts(&bytes[..n]) {
-        return to.write_all(b"accepted\n");
-    }
-    to.write_all(b"not accepted\n")
-}
-
-fn judge<W: Write>(to: &mut W, input: &mut [u8], have: usize, bytes: &mut [u8]) -> io::Result<()>
-    requires { have ≤ length input.old }
-{
-    let n = squeeze(input, have);
-    say(to, &input[..n], bytes)
+    to.write_all(match bench_lines::unhex(digits, bytes) {
+        None => b"?\n",
+        Some(n) if checker::accepts(&bytes[..n]) => b"accepted\n",
+        Some(_) => b"not accepted\n",
+    })
 }
 
 fn main(rt: HostRuntime) -> io::Result<()> {
     let mut input = [0u8; INPUT_ROOM];
     let mut bytes = [0u8; BYTES_ROOM];
     let have = bench_lines::read_full(&mut rt.stdin(), &mut input)?;
-    judge(&mut rt.stdout(), &mut input, have, &mut bytes)
+    let n = squeeze(&mut input, have);
+    say(&mut rt.stdout(), &input[..n], &mut bytes)
 }

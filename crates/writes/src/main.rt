@@ -8,6 +8,5 @@ use std::io;
 
 fn main(rt: HostRuntime) -> io::Result<()> {
     let mut payload = [0u8; PAYLOAD_ROOM];
-    let way = Way::Write;
-    bench_cases::run_file(&mut rt.stdin(), &mut rt.stdout(), way, &mut payload)
+    bench_cases::run_file(&mut rt.stdin(), &mut rt.stdout(), Way::Write, &mut payload)
 }

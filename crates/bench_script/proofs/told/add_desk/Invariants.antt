@@ -1,13 +1,7 @@
--- `bench_script::told::add_desk` meets its contract: what is gathered stays inside the buffer.
+-- `add_desk` meets its contract: the buffer keeps its length.
 -- Assumes nothing.
-use mathlib.Core.Path.{◌≡◌}
-use Prim.Native.Nat.{◌-◌, ◌≤◌}
-use lib.ListN.{length}
-use Rattle.paper.specs.Limits.{desk_most}
+use Rattle.std.proofs.Common.{◌≡◌, length}
 use Rattle.bench_script.proofs.told.add_desk.Given as goal
 
-abbrev pub invariant-loop-i : goal.invariant-loop-i
-invariant-loop-i g l = (l.i ≤ desk_most) × (l.p ≤ length l.out) × (length l.out ≡ length l.initial.out)
-
-abbrev pub decreases-loop-i : goal.decreases-loop-i
-decreases-loop-i g l = desk_most - l.i
+abbrev pub invariant-loop-r : goal.invariant-loop-r
+invariant-loop-r g l = length l.to.out.now ≡ length l.initial.to.out.now
