@@ -35,16 +35,39 @@ fn defined(path: &str) -> Table {
     table
 }
 
-/// The constants `pub const NAME: TYPE = NUMBER;` of a file of Rattle.
+/// The constants `const NAME: TYPE = NUMBER;` of a file of Rattle, public or not.
 fn constants(path: &str) -> BTreeMap<String, u64> {
     let text = read(path);
-    let lines = text.lines().filter_map(|line| line.strip_prefix("pub const "));
+    let lines = text.lines().map(|line| line.strip_prefix("pub ").unwrap_or(line));
+    let lines = lines.filter_map(|line| line.strip_prefix("const "));
     let split = lines.filter_map(|line| {
         let (name, rest) = line.split_once(':')?;
         let (_, number) = rest.split_once(" = ")?;
         Some((name.to_string(), number.strip_suffix(';')?.parse().ok()?))
     });
     split.collect()
+}
+
+/// The cases `Name = NUMBER,` of the enums in a file of Rattle. `PastEnd` is `PAST_END`.
+fn cases(path: &str) -> BTreeMap<String, u64> {
+    let text = read(path);
+    let split = text.lines().filter_map(|line| {
+        let (name, number) = line.trim().split_once(" = ")?;
+        let number = number.strip_suffix(',')?.parse().ok()?;
+        Some((screaming(name), number))
+    });
+    split.collect()
+}
+
+fn screaming(name: &str) -> String {
+    let mut words = String::new();
+    for letter in name.chars() {
+        if letter.is_ascii_uppercase() && !words.is_empty() {
+            words.push('_');
+        }
+        words.push(letter.to_ascii_uppercase());
+    }
+    words
 }
 
 /// The macros and the enum constants of the header, without their prefix, with the comment after each.
@@ -80,7 +103,9 @@ fn agree(names: &[&str], defined: &Table) {
 #[test]
 fn refusals_are_those_of_the_table() {
     let header = header();
-    let code = constants("crates/paper/src/lib.rt");
+    // No refusal, and so no case of the enum: it is the C boundary's.
+    let mut code = cases("crates/paper/src/lib.rt");
+    code.extend(constants("crates/exports/src/lib.rt"));
     for (name, (number, words)) in defined("crates/paper/specs/Refusals.antt") {
         assert_eq!(code.get(&name), Some(&number), "{name} in code");
         let (told, comment) = &header[&name];
