@@ -50,7 +50,8 @@ impl Room<'_> {
     ) -> io::Result<()> {
         match answer {
             Ok(done) => {
-                out.add(b"0\t")?;
+                out.add(b"0")?;
+                out.add(b"\t")?;
                 match way {
                     Way::Read => out.add_front(self.res, done.length),
                     Way::Write => out.add_hex(self.res, done.length),

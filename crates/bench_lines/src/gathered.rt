@@ -22,15 +22,18 @@ impl<'a, W: Write> Gathered<'a, W> {
     // Nothing is gathered yet.
     pub fn new(to: &'a mut W, out: &'a mut [u8]) -> Gathered<'a, W>
         ensures none { result.pos ≡ 0 }
-        ensures room { length result.out.now ≡ length out.old }
+        ensures same_reference { result.out.ghost_name ≡ out.entry.ghost_name }
+        ensures same { result.out.now ≡ out.old }
     {
         Gathered { to, out, pos: 0 }
     }
 
     // Writes what was gathered.
     pub fn send(&mut self) -> io::Result<()>
+        ensures same_reference { self.new.out.ghost_name ≡ self.old.out.ghost_name }
         ensures same { self.new.out.now ≡ self.old.out.now }
         ensures none { OnOk result (self.new.pos ≡ 0) }
+        ensures err { OnErr result (self.new.pos ≡ self.old.pos) }
     {
         write_front(self.to, self.out, self.pos)?;
         self.pos = 0;
@@ -40,7 +43,9 @@ impl<'a, W: Write> Gathered<'a, W> {
     // Gathers what has room behind `pos`. The codec's `Output` promises bytes, this a length alone: the bench stands on no crate of the codec.
     fn put(&mut self, s: &[u8])
         requires { self.old.pos + length s.now ≤ length self.old.out.now }
-        ensures { length self.new.out.now ≡ length self.old.out.now }
+        ensures same_reference { self.new.out.ghost_name ≡ self.old.out.ghost_name }
+        ensures room { length self.new.out.now ≡ length self.old.out.now }
+        ensures pos { self.new.pos ≡ self.old.pos + length s.now }
     {
         let pos = self.pos;
         let end = pos + s.len();
@@ -50,8 +55,10 @@ impl<'a, W: Write> Gathered<'a, W> {
 
     // Gathers more output. What was gathered is written first where there is no room behind it; where that fails, the buffer is as it was.
     pub fn add(&mut self, s: &[u8]) -> io::Result<()>
+        ensures same_reference { self.new.out.ghost_name ≡ self.old.out.ghost_name }
         ensures room { length self.new.out.now ≡ length self.old.out.now }
         ensures err { OnErr result (self.new.out.now ≡ self.old.out.now) }
+        ensures none_more { OnErr result (self.new.pos ≤ self.old.pos) }
     {
         if s.len() > self.out.len() - self.pos {
             self.send()?;
@@ -65,22 +72,27 @@ impl<'a, W: Write> Gathered<'a, W> {
 
     // The first n bytes, or all where there are fewer.
     pub fn add_front(&mut self, s: &[u8], n: usize) -> io::Result<()>
+        ensures same_reference { self.new.out.ghost_name ≡ self.old.out.ghost_name }
         ensures room { length self.new.out.now ≡ length self.old.out.now }
         ensures err { OnErr result (self.new.out.now ≡ self.old.out.now) }
+        ensures none_more { OnErr result (self.new.pos ≤ self.old.pos) }
     {
         self.add(&s[..n.min(s.len())])
     }
 
     pub fn add_decimal(&mut self, n: u64) -> io::Result<()>
+        ensures same_reference { self.new.out.ghost_name ≡ self.old.out.ghost_name }
         ensures room { length self.new.out.now ≡ length self.old.out.now }
         ensures err { OnErr result (self.new.out.now ≡ self.old.out.now) }
+        ensures none_more { OnErr result (self.new.pos ≤ self.old.pos) }
     {
         self.add(Buffer::new().format(n).as_bytes())
     }
 
     // The first n bytes in hex, or all where there are fewer.
     pub fn add_hex(&mut self, s: &[u8], n: usize) -> io::Result<()>
-        ensures { length self.new.out.now ≡ length self.old.out.now }
+        ensures same_reference { self.new.out.ghost_name ≡ self.old.out.ghost_name }
+        ensures room { length self.new.out.now ≡ length self.old.out.now }
     {
         for x in &s[..n.min(s.len())] {
             self.add(&[glyph(*x / 16), glyph(*x % 16)])?;
@@ -90,7 +102,8 @@ impl<'a, W: Write> Gathered<'a, W> {
 
     // The line's name and a tab.
     pub fn add_name(&mut self, line: &[u8]) -> io::Result<()>
-        ensures { length self.new.out.now ≡ length self.old.out.now }
+        ensures same_reference { self.new.out.ghost_name ≡ self.old.out.ghost_name }
+        ensures room { length self.new.out.now ≡ length self.old.out.now }
     {
         self.add(part(line, TAB, 0))?;
         self.add(b"\t")
@@ -98,7 +111,8 @@ impl<'a, W: Write> Gathered<'a, W> {
 
     // "a malformed or over-long line answers its name (or what stands before the first tab, at most 255 bytes of it), a tab and `?`"
     pub fn add_malformed(&mut self, line: &[u8]) -> io::Result<()>
-        ensures { length self.new.out.now ≡ length self.old.out.now }
+        ensures same_reference { self.new.out.ghost_name ≡ self.old.out.ghost_name }
+        ensures room { length self.new.out.now ≡ length self.old.out.now }
     {
         self.add_front(part(line, TAB, 0), NAME_MOST)?;
         self.add(b"\t?\n")

@@ -1,5 +1,6 @@
 // Lines of a reader.
 ghost use Rattle.std.specs.Prelude.{◌≡◌, ◌≤◌, ◌<◌, length, IsTrue, IfOk, IfSome, OnErr};
+ghost use Rattle.bench_lines.specs.Lined.{bytes_of};
 
 use std::io;
 use std::io::Read;
@@ -40,7 +41,9 @@ impl<'a, R: Read> Lines<'a, R> {
     }
 
     // The next line; none at the end of input.
-    pub fn next_line(&mut self) -> io::Result<Option<Line<'_>>> {
+    pub fn next_line(&mut self) -> io::Result<Option<Line<'_>>>
+        ensures inside { IfOk result (λ found. IfSome found (λ l. length (bytes_of l) ≤ length self.old.buf.now)) }
+    {
         let Some((from, end)) = self.advance()? else {
             return Ok(None);
         };
@@ -56,7 +59,7 @@ impl<'a, R: Read> Lines<'a, R> {
     // its line end".
     pub fn advance(&mut self) -> io::Result<Option<(usize, usize)>>
         ensures room { length self.new.buf.now ≡ length self.old.buf.now }
-        ensures inside { IfOk result (λ found. IfSome found (λ l. (l.0 ≤ l.1) × (l.1 ≤ length self.new.buf.now))) }
+        ensures inside { IfOk result (λ found. IfSome found (λ l. (l.0 ≤ l.1) × (l.1 ≤ self.new.have))) }
     {
         if self.long {
             self.skip()?;
