@@ -28,3 +28,14 @@ fn a_c_program_decodes_and_encodes_the_sample_and_keeps_a_desk() {
     );
     assert_eq!(String::from_utf8_lossy(&run.stdout), expected);
 }
+
+/// A controller may have no C library: of its names the archive needs one.
+#[test]
+fn the_archive_needs_memset_alone() {
+    let archive = Path::new(env!("CARGO_MANIFEST_DIR")).join("../target/native/libexports.a");
+    let asked = Command::new("nm").arg("-u").arg(archive).output().expect("nm, beside the linker");
+    assert!(asked.status.success());
+    let asked = String::from_utf8_lossy(&asked.stdout);
+    let names: Vec<&str> = asked.lines().filter_map(|l| l.trim().strip_prefix("U ")).collect();
+    assert_eq!(names, ["memset"]);
+}

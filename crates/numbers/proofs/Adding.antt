@@ -18,6 +18,10 @@ use Rattle.numbers.proofs.Writing as writing
 pub none : (o : Output) → Added o [] o
 none o = record { same = refl; wrote = writing.none o.buf.now o.pos }
 
+-- what a function writes of the buffer and the place
+pub written : (o o' : Output) (t : List ℕ) → o'.buf.ghost_name ≡ o.buf.ghost_name → Wrote o.buf.now o.pos t o'.pos o'.buf.now → Added o t o'
+written o o' t e w = record { same = e; wrote = w }
+
 pub joined : {o o' o'' : Output} {a b : List ℕ} → Added o a o' → Added o' b o'' → Added o (a ++ b) o''
 joined {o} {o'} {o''} {a} {b} v w = record { same = w.same ∙ v.same; wrote = writing.joined v.wrote w.wrote }
 

@@ -18,6 +18,8 @@ use Rattle.numbers.specs.declared.Integer.TheVariants.{Plus, Minus}
 use Rattle.numbers.specs.Bytes.{byte}
 use Rattle.numbers.specs.Decimal.{decimal, decimal_of, digits_only, plain, integral, value_from, integer_said}
 use Rattle.numbers.specs.Met.{too_large, capped, next, plus_said, minus_said, digit_count}
+use Rattle.numbers.specs.Met.{Wrote}
+use Rattle.numbers.proofs.Writing as writing
 use Rattle.numbers.proofs.Adding.{joined, as_long, renamed}
 use Rattle.numbers.proofs.Putting.{held_next, counted}
 use Rattle.numbers.proofs.Decimals.{decimal-one, decimal-more, decimal-few, value_up, digit_low, digit-high, only-head, only-tail, plain-only, integral-plus, integral-minus, said-plus, said-minus}
@@ -31,23 +33,21 @@ decimal_counted n k h e =
     (λ x l m. decimal-long x l m ∙ add-one (length (decimal (x / 10)))) n n (omega arith) h
 
 -- digits written
-module _ (n : ℕ) (o : Output) where
-  pub digit_room : n < 10 → Room o (decimal n) → Room o ((48 + n) ∷ [])
+module _ (n p : ℕ) (d : List ℕ) where
+  pub digit_room : n < 10 → p + length (decimal n) ≤ length d → p < length d
   digit_room h g = omega (arith, ap length (decimal-one n h))
 
-  pub digit-done : (o' : Output) → n < 10 → Added o ((48 + n) ∷ []) o' → Added o (decimal n) o'
-  digit-done o' h w = renamed (decimal-one n h) w
+  pub digit-done : (r : ℕ) (d' : List ℕ) → n < 10 → Wrote d p ((48 + n) ∷ []) r d' → Wrote d p (decimal n) r d'
+  digit-done r d' h w = rw (decimal-one n h) w
 
-  module _ (h : 10 ≤ n) (l : n < 2 ^ 64) where
-    pub digits-room : Room o (decimal n) → Room o (decimal (n / 10))
-    digits-room g = omega (arith, decimal-long n h l)
+  pub digits-room : 10 ≤ n → n < 2 ^ 64 → p + length (decimal n) ≤ length d → p + length (decimal (n / 10)) ≤ length d
+  digits-room h l g = omega (arith, decimal-long n h l)
 
-    module _ (o' : Output) (v : Added o (decimal (n / 10)) o') where
-      pub digits-next-room : Room o (decimal n) → Room o' ((48 + n % 10) ∷ [])
-      digits-next-room g = omega (arith, decimal-long n h l, v.wrote.place, as_long v)
+  pub digits-next-room : (r : ℕ) (d' : List ℕ) → 10 ≤ n → n < 2 ^ 64 → p + length (decimal n) ≤ length d → Wrote d p (decimal (n / 10)) r d' → r < length d'
+  digits-next-room r d' h l g w = omega (arith, decimal-long n h l, w.place, writing.as_long w)
 
-      pub digits-done : (o'' : Output) → Added o' ((48 + n % 10) ∷ []) o'' → Added o (decimal n) o''
-      digits-done o'' w = renamed (decimal-more n h (omega arith)) (joined v w)
+  pub digits-done : (r r' : ℕ) (d' d'' : List ℕ) → 10 ≤ n → n < 2 ^ 64 → Wrote d p (decimal (n / 10)) r d' → Wrote d' r ((48 + n % 10) ∷ []) r' d'' → Wrote d p (decimal n) r' d''
+  digits-done r r' d' d'' h l v w = let step : n < 2 ^ 64 = l in rw (decimal-more n h (omega arith)) (writing.joined v w)
 
 pub ruleset digit_rules = (digit_room, digit-done, digits-room, digits-next-room, digits-done)
 

@@ -1,18 +1,42 @@
 // What is written: bytes, numbers and integers, each behind what was written before.
-ghost use Rattle.std.specs.Prelude.{[], ◌∷◌};
+ghost use Rattle.std.specs.Prelude.{[], ◌∷◌, ◌+◌, ◌≤◌, ◌<◌, length};
 ghost use Rattle.numbers.specs.Bytes.{lowest};
 ghost use Rattle.numbers.specs.Number.{number_of};
 ghost use Rattle.numbers.specs.Integer.{Held, brief_of};
 ghost use Rattle.numbers.specs.Decimal.{decimal, decimal_of};
+ghost use Rattle.numbers.specs.Met.{Wrote};
 ghost use Rattle.numbers.specs.Output.{Room, Added};
 
 use crate::{Integer, clear_width, number_width};
+use paper::lent::copy;
 
 // A lent buffer, and the place up to which it is written.
 #[derive(Drop)]
 pub struct Output<'a> {
     pub buf: &'a mut [u8],
     pub pos: usize,
+}
+
+#[tactic(auto, using(crate::proofs::Writing::one))]
+fn digit_at(buf: &mut [u8], pos: usize, x: u8) -> usize
+    requires { pos < length buf.old }
+    ensures { Wrote buf.old pos (x ∷ []) result buf.new }
+{
+    buf[pos] = x;
+    pos + 1
+}
+
+// By a place that goes from call to call: in an output each digit would wait for the place that the one before it stored.
+fn digits_at(buf: &mut [u8], pos: usize, n: u64) -> usize
+    requires { pos + length (decimal n) ≤ length buf.old }
+    ensures { Wrote buf.old pos (decimal n) result buf.new }
+{
+    if n < 10 {
+        digit_at(buf, pos, b'0' + n as u8)
+    } else {
+        let next = digits_at(buf, pos, n / 10);
+        digit_at(buf, next, b'0' + (n % 10) as u8)
+    }
 }
 
 impl Output<'_> {
@@ -31,7 +55,7 @@ impl Output<'_> {
         ensures { Added self.old t.now self.new }
     {
         let end = self.pos + t.len();
-        self.buf[self.pos..end].copy_from_slice(t);
+        copy(&mut self.buf[self.pos..end], t);
         self.pos = end;
     }
 
@@ -68,16 +92,12 @@ impl Output<'_> {
         }
     }
 
+    #[tactic(auto, using(crate::proofs::Adding::written))]
     fn put_digits(&mut self, n: u64)
         requires { Room self.old (decimal n) }
         ensures { Added self.old (decimal n) self.new }
     {
-        if n < 10 {
-            self.put(b'0' + n as u8);
-        } else {
-            self.put_digits(n / 10);
-            self.put(b'0' + (n % 10) as u8);
-        }
+        self.pos = digits_at(self.buf, self.pos, n);
     }
 
     pub fn put_decimal(&mut self, i: Integer)

@@ -1,6 +1,7 @@
 // The numbers of the paper's two tables that the code uses. Their meaning stands in specs/: Limits and Refusals.
 #![tactic(auto)]
 
+pub mod bytes;
 pub mod lent;
 
 ghost use Rattle.std.specs.Prelude.{◌≡◌};
