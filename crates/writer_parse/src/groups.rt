@@ -47,6 +47,7 @@ pub fn fit_at(d: &[u8], row: usize, f: Format, at: usize) -> Result<(), Refused>
 }
 
 // An object or array whose first bracket stands at `at`.
+#[inline(always)]
 pub fn group_at(
     d: &[u8],
     s: &[u8],

@@ -10,6 +10,7 @@ use writer_tokens::tokens::{skip, token_at};
 
 // "A token's own grammar and its turn come first (15)": the place after the colon that follows a name.
 #[tactic(auto, unfolding(text::specs::Writing::colon_at))]
+#[inline(always)]
 pub fn colon_at(s: &[u8], from: usize) -> Result<usize, Refused>
     requires { from ≤ length s.now }
     ensures { DueMet s.now from result }

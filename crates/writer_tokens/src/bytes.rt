@@ -23,7 +23,7 @@ pub fn sign_byte(c: u8) -> bool
 pub(crate) fn word_byte(c: u8) -> bool
     ensures { result ≡ word_byte c }
 {
-    matches!(c, b'A'..=b'Z' | b'a'..=b'z' | b'0'..=b'9' | b'+' | b'-' | b'.')
+    c.is_ascii_alphabetic() || c.is_ascii_digit() || c == b'+' || c == b'-' || c == b'.'
 }
 
 pub(crate) fn integer_byte(c: u8) -> bool

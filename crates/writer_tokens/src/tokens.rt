@@ -12,15 +12,19 @@ use crate::numerals::{is_integral, is_numeral};
 use paper::{Refusal, Refused};
 use payload::strings::string_byte;
 
-// The place of the first byte from `at` on that is no space, or the end.
+// The place of the first byte from `at` on that is no space, or the end. Most often a token begins there at once.
 pub fn skip(s: &[u8], at: usize) -> usize
     requires { at ≤ length s.now }
     ensures { Passed space s.now at result }
 {
+    if at < s.len() && s[at] > b' ' {
+        return at;
+    }
     run_end(s, at, space_byte)
 }
 
 // "a string read byte by byte to its quote"
+#[inline(always)]
 fn string_at(s: &[u8], at: usize) -> Result<Token, Refused>
     requires { at < length s.now }
     ensures { string_at s.now at (past string_byte s.now (at + 1)) ≡ meant s.now at result }
@@ -34,6 +38,7 @@ fn string_at(s: &[u8], at: usize) -> Result<Token, Refused>
 }
 
 // "the longest run of letters, digits and `+-.`, or else one byte"
+#[inline(never)]
 fn word_at(s: &[u8], at: usize) -> Result<Token, Refused>
     requires { at < length s.now }
     ensures { word_at (slice at (past word_byte s.now at) s.now) at (past word_byte s.now at) ≡ meant s.now at result }
@@ -49,7 +54,8 @@ fn word_at(s: &[u8], at: usize) -> Result<Token, Refused>
     }
 }
 
-// The token whose first byte stands at `at`.
+// The token whose first byte stands at `at`. Inlined where it is asked for: most tokens are signs, and are one byte there.
+#[inline(always)]
 pub fn token_at(s: &[u8], at: usize) -> Result<Token, Refused>
     ensures { Scanned s.now at result }
 {
