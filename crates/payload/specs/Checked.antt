@@ -1,3 +1,4 @@
+-- Inside the code's contracts alone: nobody needs to believe this page.
 -- What a check of the paper's order lets through: a refusal's number, or one number.
 --   checked         the code's form of it
 --   format_checked  the same, where the number is a format's

@@ -1,4 +1,5 @@
 pub mod Copying
+pub mod Inside
 pub mod Parting
 pub mod Members
 pub mod Wording
