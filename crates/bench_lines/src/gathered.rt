@@ -40,7 +40,7 @@ impl<'a, W: Write> Gathered<'a, W> {
         Ok(())
     }
 
-    // Gathers what has room behind `pos`. The codec's `Output` promises bytes, this a length alone: the bench stands on no crate of the codec.
+    // Gathers what has room behind `pos`. The codec's `Output` promises bytes, this lengths and a place: the bench stands on no crate of the codec.
     fn put(&mut self, s: &[u8])
         requires { self.old.pos + length s.now ≤ length self.old.out.now }
         ensures same_reference { self.new.out.ghost_name ≡ self.old.out.ghost_name }
